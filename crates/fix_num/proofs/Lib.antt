@@ -1,0 +1,3 @@
+pub mod DecimalLemmas
+pub mod PrintLemmas
+pub mod RoundingLemmas

@@ -1,0 +1,49 @@
+-- What the rounding's floor says.
+use Rattle.std.proofs.lemmas.Bool.{cases_lt}
+use Rattle.std.proofs.Common.{inl, inr, ◌-◌, sym, ◌∙◌, ◌≡◌, ℕ, ◌+◌, ◌*◌, ◌/◌, ◌<◌, ◌≤◌, zero, suc, refl, arith, ap, subst}
+use Rattle.std.specs.Prelude.{ℤ, pos, negsuc, ◌+ℤ◌, ◌*ℤ◌, ◌≤ℤ◌, ◌<ℤ◌, unsigned_abs}
+use Rattle.std.specs.Int.{int_div_euclid}
+use Rattle.std.proofs.lemmas.Int.{ints}
+use Rattle.std.proofs.Math.Nat.{div-mul-le_self, lt-div-mul-add, div-lt_iff_lt-mul, mul-le-mul_left}
+use Rattle.fix_num.specs.Rounding.{rounded, IsNearest}
+
+-- a floor by a positive divisor, times the divisor
+pub floor_is : (z : ℤ) (d : ℕ) → 0 < d → ((int_div_euclid z (pos d) *ℤ pos d) ≤ℤ z) × (z <ℤ ((int_div_euclid z (pos d) *ℤ pos d) +ℤ pos d))
+floor_is (pos a) d p =
+    let low = div-mul-le_self a d in
+    let high = lt-div-mul-add {a = a} {b = d} p in
+    (omega (arith, ints, low), omega (arith, ints, high))
+floor_is (negsuc a) d p =
+    let low = div-mul-le_self a d in
+    let high = lt-div-mul-add {a = a} {b = d} p in
+    (omega (arith, ints, high), omega (arith, ints, low))
+
+-- z is the rounding's dividend, as a number with its sign
+rounded_pos : (a : ℤ) (b n : ℕ) → ((pos 2 *ℤ a) +ℤ pos b) ≡ pos n → rounded a (pos b) ≡ pos (n / (2 * b))
+unfolding rounded
+rounded_pos a b n e = rw e refl
+
+rounded_neg : (a : ℤ) (b n : ℕ) → ((pos 2 *ℤ a) +ℤ pos b) ≡ negsuc n → rounded a (pos b) ≡ negsuc (n / (2 * b))
+unfolding rounded
+rounded_neg a b n e = rw e refl
+
+-- a quotient by at least two is at most a half
+half_le : (n m b : ℕ) → 0 < b → n ≤ 2 * m + b → n / (2 * b) ≤ m
+half_le n m b some small =
+    let more = mul-le-mul_left (2 * m + 1) some in
+    let below : n < (m + 1) * (2 * b) = omega (arith, more) in
+    let lt : n / (2 * b) < m + 1 = (div-lt_iff_lt-mul {k = 2 * b} {x = n} {y = m + 1} (omega arith)).1 below in
+    omega arith
+
+-- rounding makes no number greater in size
+pub rounded_size : (a : ℤ) (b : ℕ) → 0 < b → unsigned_abs (rounded a (pos b)) ≤ unsigned_abs a
+rounded_size (pos m) b some =
+    rw (rounded_pos (pos m) b (2 * m + b) (omega (arith, ints))) (half_le (2 * m + b) m b some (omega arith))
+rounded_size (negsuc m) b some = elim (cases_lt b (2 * m + 2)) [
+  | inl low ↦ rw (rounded_neg (negsuc m) b (2 * m + 1 - b) (omega (arith, ints))) (let h = half_le (2 * m + 1 - b) m b some (omega arith) in omega (arith, h))
+  | inr high ↦ rw (rounded_pos (negsuc m) b (b - (2 * m + 2)) (omega (arith, ints))) (let h = half_le (b - (2 * m + 2)) 0 b some (omega arith) in omega (arith, h))
+]
+
+pub size_of_rounded : (a b : ℤ) → pos 0 <ℤ b → unsigned_abs (rounded a b) ≤ unsigned_abs a
+size_of_rounded a (pos b) some = rounded_size a b (omega (arith, ints))
+size_of_rounded a (negsuc b) some = absurd (omega (arith, ints))

@@ -1,0 +1,5 @@
+pub mod Decimal
+pub mod Digits
+pub mod Parts
+pub mod Print
+pub mod Rounding

@@ -1,0 +1,14 @@
+//! Exact fixed-point numbers: decimals as text, their reading and printing, and the one rounding that
+//! every computation with them uses. `read_decimal("1.5", 6, limit)` is `Ok(1500000)`.
+#![tactic(auto)]
+
+mod decimal;
+mod parts;
+mod print;
+mod rounding;
+mod units;
+
+pub use decimal::{NumFault, read_decimal, read_decimal_bytes};
+pub use print::print_fix;
+pub use rounding::rnd;
+pub use units::{Bill, Fix, Micros};
