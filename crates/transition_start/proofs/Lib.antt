@@ -1,0 +1,3 @@
+pub mod Arithmetic
+pub mod Ends
+pub mod Rules

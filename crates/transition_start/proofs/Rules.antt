@@ -1,0 +1,126 @@
+-- Which rule applies to a change.
+use Rattle.std.proofs.Common.{◌≡◌, ℕ, ◌<◌, refl, suc, arith, ap, sym, ◌∙◌, inl, inr, subst}
+use Rattle.std.specs.Prelude.{ℤ, pos, ◌≤ℤ◌, ◌<ℤ◌, ◌≢◌, int_lt, int_le, Bool, true, false, not, ◌&&◌, ◌==◌, if◌then◌else◌, cond, Option, Some, None, IsNone, IsSomeAnd, IfSome, is_none, ◌⊎◌, ◌↔◌, ⊤}
+use Rattle.std.specs.Ordering.{int_eq}
+use Rattle.std.specs.Option.{option_map_or}
+use Rattle.std.specs.Bool.{Decides as DecidesTest}
+use Rattle.std.proofs.lemmas.Bool.{cases_lt, false≢true}
+use Rattle.std.proofs.lemmas.Bool.Decides.{Decides-int_eq, Decides-and, Decides-like, Decides-not}
+use Rattle.std.proofs.lemmas.Int.{ints}
+use Rattle.fix_num.specs.declared.units.Fix.{Fix}
+use Rattle.transition_start.specs.declared.matched.Match.{Match}
+use Rattle.transition_start.specs.declared.transition.Running.{Running}
+use Rattle.transition_start.specs.declared.transition.Completed.{Completed}
+use Rattle.transition_start.specs.declared.starting.Decision.{Decision}
+use Rattle.transition_start.specs.Sampling.{sample_of}
+use Rattle.transition_start.specs.Decision.{Change, Rule, Unmatched, Starts, DropsCompleted, CancelsThere, CancelsAtOnce, Reverses, Replaces, Keeps, Wants, Applies, Decides, rank, outcome, rule_of, decision_of, is_same, combined_duration, wanted, runs_elsewhere, completed_elsewhere, NotCompletedTo, RunsElsewhere}
+
+-- the rule of a rank
+rule_at : ℕ → Rule
+rule_at n =
+    (if n == 0 then Unmatched else if n == 1 then Starts else if n == 2 then DropsCompleted else if n == 3 then CancelsThere
+    else if n == 4 then CancelsAtOnce else if n == 5 then Reverses else if n == 6 then Replaces else Keeps)
+
+ranked : (a : Rule) → rule_at (rank a) ≡ a
+unfolding rule_at
+ranked Unmatched = refl
+ranked Starts = refl
+ranked DropsCompleted = refl
+ranked CancelsThere = refl
+ranked CancelsAtOnce = refl
+ranked Reverses = refl
+ranked Replaces = refl
+ranked Keeps = refl
+
+-- two rules that apply are one
+pub only_one : (x : Change) (a b : Rule) → Applies x a → Applies x b → a ≡ b
+only_one x a b p q = elim (cases_lt (rank a) (rank b)) [
+  | inl less ↦ absurd (q.first a less p.wants)
+  | inr more ↦ elim (cases_lt (rank b) (rank a)) [
+    | inl less ↦ absurd (p.first b less q.wants)
+    | inr most ↦ let e : rank a ≡ rank b = omega arith in sym (ranked a) ∙ ap rule_at e ∙ ranked b
+  ]
+]
+
+-- ---- the tests tell what the rules want
+
+fix : ℤ → Fix
+fix v = record { 0 = v }
+
+same_tells : (a b : Fix) → DecidesTest (is_same a b) (a ≡ b)
+unfolding fix
+same_tells a b = Decides-like (int_eq a.0 b.0) (ap fix) (ap (λ (v : Fix). v.0)) (Decides-int_eq a.0 b.0)
+
+some_tells : {T : Type 0} (o : Option T) (p : T → Bool) (P : T → Type 0) → ((x : T) → DecidesTest (p x) (P x)) → DecidesTest (option_map_or p o false) (IsSomeAnd o P)
+some_tells None p P h = (λ e. absurd (false≢true e), λ k. absurd k)
+some_tells (Some x) p P h = h x
+
+none_tells : {T : Type 0} (o : Option T) → DecidesTest (is_none o) (IsNone o)
+none_tells None = (λ _. refl, λ _. refl)
+none_tells (Some x) = (λ e. absurd (false≢true e), λ k. absurd (false≢true (sym k)))
+
+any_tells : (x : Change) → DecidesTest (completed_elsewhere x true) (NotCompletedTo x)
+any_tells x = go x.completed where
+  go : (o : Option Completed) → DecidesTest (option_map_or (λ c. not (is_same c.to x.after)) o true) (IfSome o (λ c. c.to ≢ x.after))
+  go None = (λ _. tt, λ _. refl)
+  go (Some c) = Decides-not _ (same_tells c.to x.after)
+
+runs_tells : (x : Change) (p : Running → Bool) (P : Running → Type 0) → ((r : Running) → DecidesTest (p r) (P r)) → DecidesTest (runs_elsewhere x p) (RunsElsewhere x P)
+runs_tells x p P h = some_tells x.running _ _ (λ r. Decides-and _ _ (Decides-not _ (same_tells r.to x.after)) (h r))
+
+lt_tells : (a b : ℤ) → DecidesTest (int_lt a b) (a <ℤ b)
+lt_tells a b = (λ e. grind (arith, ints), λ h. grind (arith, ints))
+
+le_tells : (a b : ℤ) → DecidesTest (int_le a b) (a ≤ℤ b)
+le_tells a b = (λ e. grind (arith, ints), λ h. grind (arith, ints))
+
+wanted_tells : (x : Change) (rule : Rule) → DecidesTest (wanted x rule) (Wants x rule)
+wanted_tells x Unmatched = none_tells x.matched
+wanted_tells x Starts = Decides-and _ _ (some_tells x.matched _ _ (λ m. lt_tells (pos 0) (combined_duration m)))
+    (Decides-and _ _ (none_tells x.running) (Decides-and _ _ (Decides-not _ (same_tells x.before x.after)) (any_tells x)))
+wanted_tells x DropsCompleted = Decides-and _ _ (none_tells x.running) (some_tells x.completed _ _ (λ c. Decides-not _ (same_tells c.to x.after)))
+wanted_tells x CancelsThere = runs_tells x _ _ (λ r. same_tells (sample_of r x.time) x.after)
+wanted_tells x CancelsAtOnce = runs_tells x _ _ (λ r. some_tells x.matched _ _ (λ m. le_tells (combined_duration m) (pos 0)))
+wanted_tells x Reverses = runs_tells x _ _ (λ r. same_tells r.adjusted x.after)
+wanted_tells x Replaces = runs_tells x _ _ (λ r. (λ _. tt, λ _. refl))
+wanted_tells x Keeps = (λ _. tt, λ _. refl)
+
+-- ---- the first rule that is wanted applies
+
+-- each rule below this rank isn't wanted
+NoneBelow : Change → ℕ → Type 0
+NoneBelow x n = (other : Rule) → rank other < n → wanted x other ≡ false
+
+one_more : (x : Change) (rule : Rule) → NoneBelow x (rank rule) → wanted x rule ≡ false → NoneBelow x (suc (rank rule))
+unfolding NoneBelow
+one_more x rule none e other less = elim (cases_lt (rank other) (rank rule)) [
+  | inl below ↦ none other below
+  | inr above ↦ let same : rank rule ≡ rank other = omega arith in subst (λ (r : Rule). wanted x r ≡ false) (sym (ranked rule) ∙ ap rule_at same ∙ ranked other) e
+]
+
+found : (x : Change) (rule : Rule) → NoneBelow x (rank rule) → wanted x rule ≡ true → Applies x rule
+unfolding NoneBelow
+found x rule none e = record {
+  wants = (wanted_tells x rule).0 e;
+  first = λ other less wants. false≢true (sym (none other less) ∙ (wanted_tells x other).1 wants);
+}
+
+chosen : (x : Change) (rule rest : Rule) → NoneBelow x (rank rule) → (NoneBelow x (suc (rank rule)) → Applies x rest) → Applies x (if wanted x rule then rule else rest)
+chosen x rule rest none more = pick (wanted x rule) refl where
+  pick : (b : Bool) → wanted x rule ≡ b → Applies x (if b then rule else rest)
+  pick true e = found x rule none e
+  pick false e = more (one_more x rule none e)
+
+none_yet : (x : Change) → NoneBelow x 0
+unfolding NoneBelow
+none_yet x other less = absurd (omega arith)
+
+pub applies : (x : Change) → Applies x (rule_of x)
+unfolding rule_of
+applies x =
+    chosen x Unmatched _ (none_yet x) (λ a. chosen x Starts _ a (λ b. chosen x DropsCompleted _ b (λ c. chosen x CancelsThere _ c
+    (λ d. chosen x CancelsAtOnce _ d (λ e. chosen x Reverses _ e (λ f. chosen x Replaces _ f (λ g. found x Keeps g refl)))))))
+
+pub decides : (x : Change) (d : Decision) → Decides x d ↔ (d ≡ decision_of x)
+unfolding decision_of
+decides x d = (λ (rule, is, e). e ∙ ap (outcome x) (only_one x rule (rule_of x) is (applies x)), λ e. (rule_of x, applies x, e))

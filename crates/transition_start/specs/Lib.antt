@@ -1,0 +1,5 @@
+pub mod Bounds
+pub mod Decision
+pub mod Interpolation
+pub mod Phase
+pub mod Sampling
