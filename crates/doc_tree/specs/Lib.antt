@@ -1,0 +1,5 @@
+pub mod Element
+pub mod Shape
+pub mod Fault
+pub mod Change
+pub mod Nodes

@@ -1,0 +1,30 @@
+-- What makes a list of elements a tree in tree order.
+use Rattle.std.specs.Prelude.{◌≡◌, ℕ, ◌≤◌, nat_eq, nat_le, Bool, true, false, List, [], ◌∷◌, length, IsTrue, IsSomeAnd, ⊤, Option, None}
+use Rattle.std.specs.List.{list_any, list_all}
+use Rattle.doc_tree.specs.declared.limits.TheConstants.{MAX_ELEMENTS, MAX_STYLE_BYTES}
+use Rattle.doc_tree.specs.Element.{Element, Document, is_in, is_used, chain}
+
+-- behind `earlier`, the last first, may stand a child of the last of them or of one of its ancestors; the first element is the root
+abbrev pub Follows : List Element → Option ℕ → Type 0
+Follows [] parent = parent ≡ None
+Follows (last ∷ earlier) parent = IsSomeAnd parent (λ p. IsTrue (list_any (nat_eq p) (chain (last ∷ earlier) last.number)))
+
+-- e may be the next element: its number is new, and its parent is one that it may follow
+pub record IsNext (earlier : List Element) (e : Element) : Type 0 where
+  pub differs : is_in e.number earlier ≡ false
+  pub follows : Follows earlier e.parent
+
+-- the elements es may follow `earlier`, one after another
+abbrev pub IsGrown : List Element → List Element → Type 0
+IsGrown earlier [] = ⊤
+IsGrown earlier (e ∷ es) = IsNext earlier e × IsGrown (e ∷ earlier) es
+
+-- the elements are those of one tree in tree order, and the number of each is a used one
+pub record IsTree (d : Document) : Type 0 where
+  pub order : IsGrown [] d.elements
+  pub numbers : IsTrue (list_all (λ e. is_used e.number d) d.elements)
+
+-- no document has more elements, and no element a longer style text
+pub record IsWithinLimits (d : Document) : Type 0 where
+  pub elements : length d.elements ≤ MAX_ELEMENTS
+  pub styles : IsTrue (list_all (λ e. nat_le (length e.style) MAX_STYLE_BYTES) d.elements)

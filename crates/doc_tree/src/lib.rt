@@ -1,0 +1,17 @@
+//! The document tree: the elements of a document in tree order, as edits build it.
+//!
+//! A [`Tree`] is seen as its list of elements in tree order and the numbers used so far; it knows
+//! no time and no meaning of style texts.
+#![tactic(auto)]
+
+mod edit;
+mod fault;
+pub mod laws;
+mod limits;
+mod node;
+mod place;
+mod tree;
+
+pub use fault::TreeFault;
+pub use limits::{MAX_DEPTH, MAX_ELEMENTS, MAX_STYLE_BYTES};
+pub use tree::Tree;
