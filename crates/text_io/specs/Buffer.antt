@@ -1,0 +1,38 @@
+-- The buffer of a reader of lines: what is read into it, and what is cut off its front.
+use Rattle.std.specs.Prelude.{◌≡◌, ℕ, ◌+◌, ◌≤◌, List, [], ◌++◌, length, slice_range, Option, None, Some, ⊤}
+use Rattle.std.specs.Io.KnownBytes.{Consumes}
+use Rattle.text_io.specs.declared.buffer.Buffer.{Buffer}
+use Rattle.text_io.specs.declared.buffer.TheConstants.{CAPACITY}
+use Rattle.text_io.specs.declared.cut.Cut.{Cut}
+use Rattle.text_io.specs.declared.cut.Cut.TheVariants.{Text, Long, End}
+use Rattle.text_io.specs.Lines.{SameLines}
+use Rattle.text_io.specs.Reader.{GivesLine}
+
+-- the bytes that are in no line yet
+abbrev pub pending_of : Buffer → List ℕ
+pending_of buffer = slice_range buffer.bytes.items buffer.start buffer.end
+
+-- a source with these bytes left before and now gave some more: they are counted, the lines are those of all bytes, and no
+-- more bytes than these are kept
+pub record Fills (old new : List ℕ) (taken taken' : ℕ) (before now : Option (List ℕ)) (given : List ℕ) : Type 0 where
+  pub gives : Consumes before now given
+  pub count : taken' ≡ taken + length given
+  pub same : SameLines (old ++ given) new
+  pub size : length new ≤ length old + length given
+
+-- the line that was cut off, with its text in these bytes: None where there was none
+abbrev pub line_of_cut : List ℕ → Cut → Option (Option (List ℕ))
+line_of_cut bytes (Text span) = Some (Some (slice_range bytes span.from span.to))
+line_of_cut bytes Long = Some None
+line_of_cut bytes End = None
+
+-- the text stands in the buffer
+abbrev pub IsWithin : Cut → Type 0
+IsWithin (Text span) = (span.from ≤ span.to) × (span.to ≤ CAPACITY)
+IsWithin Long = ⊤
+IsWithin End = ⊤
+
+-- the lines before are this line and then the lines after; where there is none, there are no bytes
+abbrev pub GivesCut : Option (Option (List ℕ)) → List ℕ → List ℕ → Type 0
+GivesCut None before after = (before ≡ []) × (after ≡ [])
+GivesCut (Some line) before after = GivesLine line before after

@@ -1,0 +1,123 @@
+//! A sink in memory.
+ghost use Rattle.std.specs.Prelude.{◌≡◌, ◌↔◌, ◌+◌, ◌≤◌, ◌<◌, ◌++◌, [], ℕ, take, length, Some, IsErr, IfOk, OnErr, nat_lt, ◌==◌, ◌&&◌, if◌then◌else◌};
+ghost use Rattle.std.specs.Io.{WritesAtMost};
+ghost use Rattle.std.specs.Io.KnownBytes.{WriteAppends};
+ghost use Rattle.text_io.specs.Causes.{HasCause, HasEmptyCause};
+ghost use Rattle.text_io.specs.Memory.{SinkState, IsListed, counted, taken_count, empties_after};
+
+use crate::fault::Failed;
+use crate::schedule::Schedule;
+use crate::sink::Sink;
+use std::alloc::AllocError;
+use std::marker::Model;
+
+/// A sink that keeps what it takes, and fails the calls that it is told to.
+#[derive(Drop)]
+pub struct MemSink {
+    bytes: Vec<u8>,
+    room: usize,
+    most: usize,
+    schedule: Schedule,
+    empties: u64,
+}
+
+impl Model for MemSink {
+    ghost use Rattle.std.specs.Prelude.{◌≡◌, ◌≤◌, vec_len, vec_capacity};
+    ghost use Rattle.text_io.specs.Memory.{SinkState};
+
+    ghost Value = { SinkState };
+
+    ghost view = { λ s. record {
+        bytes = s.bytes.items;
+        room = s.room;
+        most = s.most;
+        failing = s.schedule.failing.items;
+        calls = s.schedule.calls;
+        failures = s.schedule.failures;
+        empties = s.empties
+    } };
+
+    ghost invariant = { λ s. (vec_len s.bytes ≤ s.room) × (s.room ≤ vec_capacity s.bytes) };
+}
+
+impl MemSink {
+    /// A sink with room for so many bytes, which takes at most `most` a call; the calls whose numbers from 1 are in
+    /// `failing` fail. Its memory is that of the list.
+    pub fn new(room: usize, most: usize, failing: Vec<u64>) -> Result<MemSink, AllocError>
+        ensures { IfOk result (λ sink. sink ≡ record {
+            bytes = [];
+            room = room;
+            most = most;
+            failing = failing.items;
+            calls = 0;
+            failures = 0;
+            empties = 0
+        }) }
+    {
+        let alloc = *failing.allocator();
+        let bytes = Vec::with_capacity(alloc, room)?;
+        Ok(MemSink {
+            bytes,
+            room,
+            most,
+            schedule: Schedule::new(failing),
+            empties: 0,
+        })
+    }
+
+    /// The bytes that it took.
+    pub fn bytes(&self) -> &[u8]
+        ensures { result.now ≡ self.now.bytes }
+    {
+        &self.bytes
+    }
+
+    fn keep(&mut self, bytes: &[u8]) -> usize
+        ensures count { result ≡ taken_count self.old (length bytes.now) }
+        ensures kept { self.new ≡ record self.old { bytes = self.old.bytes ++ take result bytes.now } }
+    {
+        let room = self.room - self.bytes.len();
+        let count = bytes.len().min(room).min(self.most);
+        self.bytes.extend_from_slice(&bytes[..count]).unwrap();
+        count
+    }
+}
+
+impl Sink for MemSink {
+    ghost held = { λ s. Some s.bytes };
+
+    ghost faults = { λ s. s.failures };
+
+    ghost empty_writes = { λ s. s.empties };
+
+    fn write(&mut self, bytes: &[u8]) -> Result<usize, Failed>
+        ensures bound { WritesAtMost result bytes.now }
+        ensures bytes { WriteAppends (Some self.old.bytes) (Some self.new.bytes) result bytes.now }
+        ensures cause { HasCause self.old.failures self.new.failures result }
+        ensures empty { HasEmptyCause self.old.empties self.new.empties result bytes.now }
+
+        // Exactly the listed calls fail, and these are counted.
+        ensures fails { IsErr result ↔ IsListed self.old.failing self.old.calls }
+        ensures failed { OnErr result (self.new ≡ record self.old {
+            calls = counted self.old.calls;
+            failures = self.old.failures + 1
+        }) }
+
+        // The others take as many bytes as they can, and are counted where that is none of some.
+        ensures count { IfOk result (λ n. n ≡ taken_count self.old (length bytes.now)) }
+        ensures passed { IfOk result (λ n. self.new ≡ record self.old {
+            bytes = self.old.bytes ++ take n bytes.now;
+            calls = counted self.old.calls;
+            empties = empties_after self.old.empties n (length bytes.now)
+        }) }
+    {
+        if self.schedule.fails() {
+            return Err(Failed);
+        }
+        let count = self.keep(bytes);
+        if count == 0 && !bytes.is_empty() {
+            self.empties = self.empties.saturating_add(1);
+        }
+        Ok(count)
+    }
+}
