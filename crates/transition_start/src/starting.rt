@@ -49,6 +49,7 @@ pub fn decide(
       position = position;
     }) }
     ensures kept { IfSome result.running IsKept }
+    ensures arrives { IfSome result.running (λ r. r.to ≡ after) }
     ensures apart { IsNone result.running ⊎ IsNone result.completed }
 {
     let item = matched.unwrap();
@@ -96,6 +97,7 @@ fn started(from: Fix, to: Fix, item: Match, t: Micros, generation: u32, position
     requires values { IsOpacity from × IsOpacity to }
     ensures value { result ≡ started (starting from to item t.0 generation position) item from }
     ensures kept { IsKept result }
+    ensures arrives { result.to ≡ to }
 {
     let start = t.0 + item.delay.0;
     Running {
