@@ -1,5 +1,5 @@
 -- Decimals as text, after CSS Values and Units Level 3, section 4.2 (real numbers), without exponents.
-use Rattle.std.specs.Prelude.{◌≡◌, ◌⊎◌, ℕ, ◌-◌, ◌<◌, ◌≤◌, ℤ, pos, neg_ℤ, unsigned_abs, Bool, true, false, not, ◌&&◌, ◌==◌, nat_lt, nat_le, cond, if◌then◌else◌, List, [], ◌∷◌, ◌++◌, length, take, drop, replicate, take_while, slice_index, IsTrue, Option, None, Some, Result, Ok, Err, option_map, unwrap_or}
+use Rattle.std.specs.Prelude.{◌≡◌, ◌⊎◌, ℕ, ◌-◌, ◌<◌, ℤ, pos, neg_ℤ, unsigned_abs, Bool, true, false, ◌&&◌, ◌==◌, nat_lt, nat_le, if◌then◌else◌, List, [], ◌∷◌, ◌++◌, length, take, drop, replicate, take_while, slice_index, IsTrue, Option, None, Some, Result, Ok, Err, option_map, unwrap_or}
 use Rattle.std.specs.List.{list_all}
 use Rattle.std.specs.Char.{is_ascii_digit}
 use Rattle.std.specs.Str.Parse.{digits_value}
