@@ -1,15 +1,16 @@
 -- The printed text: what it spells, and in how few characters.
-use Rattle.std.proofs.Common.{◌≡◌, ℕ, ◌+◌, ◌-◌, ◌*◌, ◌/◌, ◌%◌, ◌^◌, ◌<◌, ◌≤◌, zero, suc, refl, arith, ap, sym, ◌∙◌, ◌∷◌, [], ◌++◌, List, Bool, true, false, replicate, length, append_assoc, inl, inr, pow-suc, mod-lt, div-add-mod', div-lt_iff_lt-mul, div-le_self, ◌==◌, decimal, ℤ, pos, negsuc, unsigned_abs}
+use Rattle.std.proofs.Common.{IsTrue, subst, zero-mul, ◌≢◌, ◌↔◌, ◌<ℤ◌, slice_index, if◌then◌else◌, ◌≡◌, ℕ, ◌+◌, ◌-◌, ◌*◌, ◌/◌, ◌%◌, ◌^◌, ◌<◌, ◌≤◌, zero, suc, refl, arith, ap, sym, ◌∙◌, ◌∷◌, [], ◌++◌, List, Bool, true, false, replicate, length, append_assoc, inl, inr, pow-suc, mod-lt, div-add-mod', div-lt_iff_lt-mul, div-le_self, ◌==◌, decimal, ℤ, pos, negsuc, unsigned_abs}
 use Rattle.std.specs.Char.{digit_value, is_ascii_digit}
 use Rattle.std.specs.Str.Parse.{AllDigits, digits_value, digits_value_after}
-use Rattle.std.proofs.lemmas.Bool.{and_from, cases_Bool, eqb-true}
+use Rattle.std.proofs.lemmas.Bool.{cases_eq, false≢true, and_from, cases_Bool, eqb-false, eqb-true}
 use Rattle.std.proofs.lemmas.Bool.Decides.{nat_tests}
-use Rattle.std.proofs.lemmas.Fmt.{decimal_is_IsNumeral}
+use Rattle.std.proofs.lemmas.Fmt.{decimal_digit, decimal_is_IsNumeral, first_decimal}
+use Rattle.std.proofs.lemmas.Int.{ints}
 use Rattle.std.proofs.lemmas.List.{drop_all, length-append, take_all}
 use Rattle.std.specs.List.{list_all}
 use Rattle.fix_num.specs.Digits.{are_digits}
 use Rattle.fix_num.specs.Decimal.{Decimal, IsDecimal, IsSign, Stands, pointed, signed, units_of}
-use Rattle.fix_num.specs.Print.{fraction_of, fraction_text, minus_of, text_of}
+use Rattle.fix_num.specs.Print.{IsShortest, fraction_of, fraction_text, minus_of, text_of}
 use Rattle.fix_num.proofs.DecimalLemmas.{digits_value_after-append}
 use Rattle.fix_num.proofs.PrintLemmas.{power_positive}
 use Rattle.fix_num.proofs.ValueLemmas.{zeros_worth}
@@ -148,3 +149,74 @@ printed_stands places v small =
       ap (λ l. list_all (λ c. c == 48) l) (drop_all places ds (fraction_length places (unsigned_abs v % 10 ^ places))),
       size_is v ∙ ap (signed (is_minus v)) (sym (printed_units places v small)),
     )
+
+-- ---- no character too many
+
+last_behind : (d : ℕ) (ds : List ℕ) → 0 < length ds → slice_index (d ∷ ds) (length (d ∷ ds) - 1) ≡ slice_index ds (length ds - 1)
+last_behind d [] some = absurd (omega arith)
+last_behind d (x ∷ xs) some =
+    let far : suc (suc (length xs)) - 1 ≡ suc (length xs) = omega arith in
+    let near : suc (length xs) - 1 ≡ length xs = omega arith in
+    rw (far, near) refl
+
+fraction_none : (places : ℕ) → fraction_of places 0 ≡ []
+fraction_none zero = refl
+fraction_none (suc places) = refl
+
+fraction_some : (places r : ℕ) → r < 10 ^ places → 0 < r → 0 < length (fraction_of places r)
+fraction_some zero r small some = absurd (omega arith)
+fraction_some (suc places) r small some = elim (cases_Bool (r == 0)) [
+  | inl none ↦ let e = eqb-true r 0 none in absurd (omega arith)
+  | inr more ↦ let e = ap length (fraction_more places r more) in omega arith
+]
+
+abbrev NoZeroLast : List ℕ → Type 0
+NoZeroLast ds = slice_index ds (length ds - 1) ≢ 48
+
+-- a digit with nothing left behind it isn't 0
+alone : (q unit rest r : ℕ) → q * unit + rest ≡ r → (r ≡ 0 → ⊥) → rest ≡ 0 → NoZeroLast ((48 + q) ∷ [])
+alone zero unit rest r sum some none = absurd (some (omega (arith, zero-mul unit)))
+alone (suc q) unit rest r sum some none = λ e. absurd (omega arith)
+
+no_zero_last : (places r : ℕ) → r < 10 ^ places → NoZeroLast (fraction_of places r)
+no_zero_last zero r small = λ e. cc
+no_zero_last (suc places) r small = elim (cases_Bool (r == 0)) [
+  | inl none ↦ subst NoZeroLast (sym (fraction_zero places r none)) (λ e. cc)
+  | inr more ↦
+      let rest : ℕ = r % 10 ^ places in
+      let some = eqb-false r 0 more in
+      subst NoZeroLast (sym (fraction_more places r more)) (elim (cases_eq rest 0) [
+        | inl none ↦
+            subst (λ ds. NoZeroLast ((48 + r / 10 ^ places) ∷ ds)) (sym (ap (fraction_of places) none ∙ fraction_none places))
+            (alone (r / 10 ^ places) (10 ^ places) rest r (div-add-mod' r (10 ^ places)) some none)
+        | inr left ↦
+            let behind = last_behind (48 + r / 10 ^ places) (fraction_of places rest) (fraction_some places rest (rest_small places r) (omega arith)) in
+            λ e. no_zero_last places rest (rest_small places r) (sym behind ∙ e)
+      ])
+]
+
+no_zero_first : (n : ℕ) → n < 2 ^ 64 → slice_index (decimal n) 0 ≡ 48 → length (decimal n) ≡ 1
+no_zero_first zero small e = ap length (decimal_digit 0 (omega arith))
+no_zero_first (suc n) small e = let first = first_decimal (suc n) (omega arith) small in absurd (omega arith)
+
+minus_by_sign : (v : ℤ) → minus_of v ≡ (if is_minus v then 45 ∷ [] else [])
+minus_by_sign (pos n) = refl
+minus_by_sign (negsuc n) = refl
+
+is_minus_tells : (v : ℤ) → IsTrue (is_minus v) ↔ (v <ℤ pos 0)
+is_minus_tells (pos n) = (λ h. absurd (false≢true h), λ h. absurd (omega (arith, ints)))
+is_minus_tells (negsuc n) = (λ h. omega (arith, ints), λ h. refl)
+
+pub printed_is_short : (places : ℕ) (v : ℤ) → unsigned_abs v < 2 ^ 64 → IsShortest (text_of places v) (printed places v)
+printed_is_short places v small =
+    let below = whole_small places (unsigned_abs v) small in
+    record {
+      spelled = printed_text places v ∙ ap (λ l. l ++ ((printed places v).whole ++ pointed (printed places v).fraction)) (minus_by_sign v);
+      whole = (decimal_is_IsNumeral (unsigned_abs v / 10 ^ places) below).0.0;
+      no_zero_first = no_zero_first (unsigned_abs v / 10 ^ places) below;
+      no_zero_last = no_zero_last places (unsigned_abs v % 10 ^ places) (rest_small places (unsigned_abs v));
+    }
+
+pub printed_shortest : (places : ℕ) (v : ℤ) → unsigned_abs v < 2 ^ 64
+    → (d : Decimal) × IsDecimal (text_of places v) d × IsShortest (text_of places v) d × (IsTrue d.negative ↔ (v <ℤ pos 0))
+printed_shortest places v small = (printed places v, printed_spells places v small, printed_is_short places v small, is_minus_tells v)

@@ -1,9 +1,8 @@
 //! What holds of decimals, of their printing and of rounding, by the definitions alone.
 ghost use Rattle.std.specs.Prelude.{◌≡◌, ◌↔◌, ℕ, ◌+◌, ◌*◌, ◌^◌, ◌<◌, ◌≤◌, ℤ, pos, ◌<ℤ◌, unsigned_abs, List, ◌++◌, length, IsTrue, false};
 ghost use Rattle.std.specs.Str.Parse.{digits_value};
-ghost use Rattle.fix_num.specs.Digits.{are_digits};
 ghost use Rattle.fix_num.specs.Decimal.{Decimal, IsDecimal, Stands, decimal_of, is_exact, reading_of, units_of};
-ghost use Rattle.fix_num.specs.Print.{text_of};
+ghost use Rattle.fix_num.specs.Print.{IsShortest, text_of};
 ghost use Rattle.fix_num.specs.Rounded.{rounded_reading_of};
 ghost use Rattle.fix_num.specs.Rounding.{IsNearest, rounded};
 
@@ -36,6 +35,13 @@ pub fn exact_value()
 pub fn printed_reads_back()
     ensures { (places limit : ℕ) (v : ℤ) → unsigned_abs v ≤ limit → unsigned_abs v < 2 ^ 64
         → reading_of places limit (text_of places v) ≡ Ok v }
+{}
+
+/// The printed text is the shortest that CSS serializes: a `-` exactly where the number is negative, no `+`, no zero
+/// before another digit and none at the end.
+pub fn printed_is_shortest()
+    ensures { (places : ℕ) (v : ℤ) → unsigned_abs v < 2 ^ 64
+        → (d : Decimal) × IsDecimal (text_of places v) d × IsShortest (text_of places v) d × (IsTrue d.negative ↔ (v <ℤ pos 0)) }
 {}
 
 /// The rounding gives the nearest number, the greater one of two that are as near, and no other number is so.

@@ -8,6 +8,8 @@ mod parts;
 mod print;
 mod rounded;
 mod rounding;
+#[cfg(test)]
+mod tests;
 mod units;
 
 pub use decimal::{NumFault, read_decimal, read_decimal_bytes};
