@@ -19,23 +19,27 @@ reading_none places limit text e = rw e refl
 not_exact : (places limit : ℕ) (text : List ℕ) (d : Decimal) → IsDecimal text d → is_exact places d ≡ false → reading_of places limit text ≡ Err TooFine
 not_exact places limit text d h fine = reading_at places limit text d (found text d h) ∙ ap (λ b. cond b (within limit (signed d.negative (units_of places d))) (Err TooFine)) fine
 
+pub within_ok : (limit : ℕ) (v : ℤ) → unsigned_abs v ≤ limit → within limit v ≡ Ok v
+within_ok limit v small = ap (λ b. let ok : Result ℤ NumFault = Ok v in cond b ok (Err TooLarge)) (le-leb (unsigned_abs v) limit small)
+
+pub within_large : (limit : ℕ) (v : ℤ) → limit < unsigned_abs v → within limit v ≡ Err TooLarge
+within_large limit v large = ap (λ b. let ok : Result ℤ NumFault = Ok v in cond b ok (Err TooLarge)) (lt-leb (unsigned_abs v) limit large)
+
 pub within_number : (places limit : ℕ) (text : List ℕ) (v : ℤ) → Stands places text v → reading_of places limit text ≡ within limit v
 within_number places limit text v s =
     reading_at places limit text s.0 (found text s.0 s.1) ∙ ap (λ b. cond b (within limit (signed s.0.negative (units_of places s.0))) (Err TooFine)) s.2
     ∙ ap (within limit) (sym s.3)
 
 pub number_from : (places limit : ℕ) (text : List ℕ) (v : ℤ) → Stands places text v × (unsigned_abs v ≤ limit) → reading_of places limit text ≡ Ok v
-number_from places limit text v h =
-    within_number places limit text v h.0 ∙ ap (λ b. let ok : Result ℤ NumFault = Ok v in cond b ok (Err TooLarge)) (le-leb (unsigned_abs v) limit h.1)
+number_from places limit text v h = within_number places limit text v h.0 ∙ within_ok limit v h.1
 
 pub too_large_from : (places limit : ℕ) (text : List ℕ) → (v : ℤ) × Stands places text v × (limit < unsigned_abs v) → reading_of places limit text ≡ Err TooLarge
-too_large_from places limit text h =
-    within_number places limit text h.0 h.1 ∙ ap (λ b. let ok : Result ℤ NumFault = Ok h.0 in cond b ok (Err TooLarge)) (lt-leb (unsigned_abs h.0) limit h.2)
+too_large_from places limit text h = within_number places limit text h.0 h.1 ∙ within_large limit h.0 h.2
 
 pub too_fine_from : (places limit : ℕ) (text : List ℕ) → (d : Decimal) × IsDecimal text d × (is_exact places d ≡ false) → reading_of places limit text ≡ Err TooFine
 too_fine_from places limit text h = not_exact places limit text h.0 h.1 h.2
 
-found_none : (text : List ℕ) (o : Option Decimal) → decimal_of text ≡ o → ((d : Decimal) → IsDecimal text d → ⊥) → decimal_of text ≡ None
+pub found_none : (text : List ℕ) (o : Option Decimal) → decimal_of text ≡ o → ((d : Decimal) → IsDecimal text d → ⊥) → decimal_of text ≡ None
 found_none text None e none = e
 found_none text (Some d) e none = absurd (none d (spelled text d e))
 

@@ -1,5 +1,5 @@
 -- The nearest number from the units that are kept and the digits behind them.
-use Rattle.std.proofs.Common.{◌≡◌, ℕ, ◌+◌, ◌-◌, ◌*◌, ◌^◌, ◌<◌, ◌≤◌, min, zero, suc, refl, arith, ap, subst, sym, ◌∙◌, List, Bool, true, false, cond, drop, length, nat_le, nat_lt, inl, inr, mul-le-mul_right, mul-lt-mul_of_pos_right, ℤ, pos, neg_ℤ, ◌*ℤ◌, ltb-true, ltb-false, leb-true, leb-false, le-ltb, le-leb, lt-ltb, eqb-true, add-zero, le_refl, pow-suc, get_or, take, Some, Ok, Err, Result, unsigned_abs, not, ◌||◌, ◌==◌, ◌∷◌, []}
+use Rattle.std.proofs.Common.{◌≡◌, ℕ, ◌+◌, ◌-◌, ◌*◌, ◌^◌, ◌<◌, ◌≤◌, min, zero, suc, refl, arith, ap, subst, sym, ◌∙◌, List, Bool, true, false, cond, drop, length, nat_le, nat_lt, inl, inr, mul-le-mul_right, mul-lt-mul_of_pos_right, ℤ, pos, neg_ℤ, ◌*ℤ◌, ltb-true, ltb-false, leb-true, leb-false, le-ltb, le-leb, lt-ltb, eqb-true, add-zero, le_refl, pow-suc, get_or, take, Ok, Err, unsigned_abs, not, ◌||◌, ◌==◌, ◌∷◌, []}
 use Rattle.std.specs.Str.Parse.{digits_value, digits_value_after}
 use Rattle.std.specs.List.{list_all}
 use Rattle.std.proofs.lemmas.Bool.{and_parts, cases_Bool, cases_lt, eqb-false, lt-leb}
@@ -9,16 +9,16 @@ use Rattle.std.proofs.lemmas.List.Folds.{list_all-append}
 use Rattle.std.specs.Char.{digit_value, is_ascii_digit}
 use Rattle.std.proofs.lemmas.Int.{ints}
 use Rattle.fix_num.specs.Digits.{are_digits}
-use Rattle.fix_num.specs.Decimal.{Decimal, decimal_of, is_exact, reading_of, signed, units_of, within}
+use Rattle.fix_num.specs.Decimal.{Decimal, is_exact, reading_of, signed, units_of, within}
 use Rattle.fix_num.specs.Rounded.{passes_half, rounded_reading_of, rounded_units}
-use Rattle.fix_num.specs.declared.decimal.NumFault.{NumFault}
 use Rattle.fix_num.specs.declared.decimal.NumFault.TheVariants.{TooLarge}
 use Rattle.fix_num.specs.Rounding.{IsNearest}
 use Rattle.fix_num.proofs.PrintLemmas.{power_positive}
 use Rattle.fix_num.proofs.RoundingLemmas.{nearest_only}
 use Rattle.fix_num.proofs.ValueLemmas.{units_with_rest, power_split, digits_below, digits_value_after_is, no_worth}
 use Rattle.fix_num.proofs.DecimalLemmas.{digit_from, digit_is, digits_value_after-ge}
-use Rattle.fix_num.proofs.ReadingLemmas.{number_told, within_number}
+use Rattle.fix_num.proofs.ReadingLemmas.{number_told, within_large, within_number}
+use Rattle.fix_num.proofs.RoundedReadingLemmas.{rounded_reading_at}
 use Rattle.fix_num.proofs.SpellingLemmas.{found}
 
 signed_times : (negative : Bool) (n b : ℕ) → signed negative n *ℤ pos b ≡ signed negative (n * b)
@@ -82,10 +82,6 @@ rounded_by_units places d digits =
 zero_rest : (negative : Bool) (rest : List ℕ) → digits_value 10 rest ≡ 0 → passes_half negative rest ≡ false
 zero_rest true rest none = let some = power_positive (length rest) in le-ltb (10 ^ length rest) (2 * digits_value 10 rest) (omega arith)
 zero_rest false rest none = let some = power_positive (length rest) in lt-leb (10 ^ length rest) (2 * digits_value 10 rest) (omega arith)
-
-rounded_reading_at : (places limit : ℕ) (text : List ℕ) (d : Decimal) → decimal_of text ≡ Some d → rounded_reading_of places limit text ≡ within limit (rounded_units places d)
-unfolding rounded_reading_of
-rounded_reading_at places limit text d e = rw e refl
 
 exact_is_rounded : (places : ℕ) (d : Decimal) → are_digits d.fraction ≡ true → is_exact places d ≡ true → rounded_units places d ≡ signed d.negative (units_of places d)
 exact_is_rounded places d digits exact =
@@ -203,7 +199,7 @@ size_of_signed true n = omega (arith, ints)
 past_limit : (negative : Bool) (limit n : ℕ) → limit < n → within limit (signed negative n) ≡ Err TooLarge
 past_limit negative limit n over =
     let size = size_of_signed negative n in
-    ap (λ b. let number : Result ℤ NumFault = Ok (signed negative n) in cond b number (Err TooLarge)) (lt-leb (unsigned_abs (signed negative n)) limit (omega arith))
+    within_large limit (signed negative n) (omega arith)
 
 -- a cap above the limit on the units that are kept changes nothing
 pub capped_reading : (places limit size most : ℕ) (d : Decimal) → are_digits d.fraction ≡ true → limit < most

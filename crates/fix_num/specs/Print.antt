@@ -1,4 +1,4 @@
--- Numbers as text.
+-- Numbers as text: base ten in the shortest form, after CSSOM, "Serializing CSS Values".
 use Rattle.std.specs.Prelude.{◌≡◌, ◌≢◌, ◌<◌, ◌-◌, length, slice_index, ℕ, zero, suc, ◌+◌, ◌/◌, ◌%◌, ◌^◌, ◌==◌, if◌then◌else◌, ℤ, pos, negsuc, unsigned_abs, List, [], ◌∷◌, ◌++◌, decimal}
 use Rattle.fix_num.specs.Decimal.{Decimal, pointed}
 
@@ -11,6 +11,7 @@ fraction_of (suc places) r = (if r == 0 then [] else (48 + r / 10 ^ places) ∷ 
 abbrev pub fraction_text : ℕ → ℕ → List ℕ
 fraction_text places r = (if r == 0 then [] else 46 ∷ fraction_of places r)
 
+-- a '-' before a negative number
 abbrev pub minus_of : ℤ → List ℕ
 minus_of (pos n) = []
 minus_of (negsuc n) = 45 ∷ []
@@ -19,7 +20,7 @@ minus_of (negsuc n) = 45 ∷ []
 unfoldable pub text_of : ℕ → ℤ → List ℕ
 text_of places v = minus_of v ++ decimal (unsigned_abs v / 10 ^ places) ++ fraction_text places (unsigned_abs v % 10 ^ places)
 
--- the decimal as CSS serializes one: no '+', a digit before the point, no zero before another digit, none at the end of the fraction
+-- the text spells the decimal with no '+', a digit before the point, no zero before another digit, and none at the end of the fraction
 pub record IsShortest (text : List ℕ) (d : Decimal) : Type 0 where
   pub spelled : text ≡ (if d.negative then 45 ∷ [] else []) ++ (d.whole ++ pointed d.fraction)
   pub whole : 0 < length d.whole

@@ -3,7 +3,7 @@ ghost use Rattle.std.specs.Prelude.{◌≡◌, ◌↔◌, ℕ, ◌+◌, ◌*◌,
 ghost use Rattle.std.specs.Str.Parse.{digits_value};
 ghost use Rattle.fix_num.specs.Decimal.{Decimal, IsDecimal, Stands, decimal_of, is_exact, reading_of, units_of};
 ghost use Rattle.fix_num.specs.Print.{IsShortest, text_of};
-ghost use Rattle.fix_num.specs.Rounded.{rounded_reading_of};
+ghost use Rattle.fix_num.specs.Rounded.{StandsNear, rounded_reading_of};
 ghost use Rattle.fix_num.specs.Rounding.{IsNearest, rounded};
 
 use crate::decimal::NumFault;
@@ -48,6 +48,18 @@ pub fn printed_is_shortest()
 pub fn rounds_to_nearest()
     ensures nearest { (a b : ℤ) → pos 0 <ℤ b → IsNearest a b (rounded a b) }
     ensures only { (a b r : ℤ) → pos 0 <ℤ b → IsNearest a b r → r ≡ rounded a b }
+{}
+
+/// A rounded reading gives the number nearest to what the text stands for, halves towards plus infinity, where the limit
+/// holds it, and each fault has its one cause.
+pub fn rounded_reading_is_exact()
+    ensures number { (places limit : ℕ) (text : List ℕ) (v : ℤ)
+        → (rounded_reading_of places limit text ≡ Ok v) ↔ (StandsNear places text v × (unsigned_abs v ≤ limit)) }
+    ensures syntax { (places limit : ℕ) (text : List ℕ)
+        → (rounded_reading_of places limit text ≡ Err NumFault.Syntax) ↔ ((d : Decimal) → IsDecimal text d → ⊥) }
+    ensures too_large { (places limit : ℕ) (text : List ℕ)
+        → (rounded_reading_of places limit text ≡ Err NumFault.TooLarge) ↔ ((v : ℤ) × StandsNear places text v × (limit < unsigned_abs v)) }
+    ensures never_too_fine { (places limit : ℕ) (text : List ℕ) → rounded_reading_of places limit text ≡ Err NumFault.TooFine → ⊥ }
 {}
 
 /// What is read exactly is read as the same number when it is rounded.

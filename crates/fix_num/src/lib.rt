@@ -3,7 +3,7 @@
 #![tactic(auto)]
 
 mod decimal;
-mod laws;
+pub mod laws;
 mod parts;
 mod print;
 mod rounded;
