@@ -1,5 +1,5 @@
 -- Digits: their front, and their value with a cap.
-use Rattle.std.proofs.Common.{◌≡◌, ℕ, ◌+◌, ◌-◌, ◌*◌, ◌^◌, ◌<◌, ◌≤◌, min, zero, suc, refl, arith, ap, subst, sym, ◌∙◌, ◌∷◌, [], ◌++◌, List, Bool, true, false, cond, take, drop, get_or, replicate, length, append_assoc, add-one, inl, inr}
+use Rattle.std.proofs.Common.{◌≡◌, ℕ, ◌+◌, ◌-◌, ◌*◌, ◌<◌, ◌≤◌, min, zero, suc, refl, arith, ap, sym, ◌∙◌, ◌∷◌, [], ◌++◌, List, Bool, true, false, cond, take, drop, get_or, replicate, length, append_assoc, add-one, inl, inr}
 use Rattle.std.specs.Prelude.{take_while, IsTrue, ◌&&◌}
 use Rattle.std.specs.List.{list_all}
 use Rattle.std.specs.Str.Parse.{digits_value_after}
@@ -17,7 +17,7 @@ first_passes : (p : ℕ → Bool) (x : ℕ) (xs : List ℕ) (b : Bool) → p x �
 first_passes p x xs true e h = rw e h
 first_passes p x xs false e h = refl
 
-front_passes : (p : ℕ → Bool) (xs : List ℕ) → list_all p (take_while p xs) ≡ true
+pub front_passes : (p : ℕ → Bool) (xs : List ℕ) → list_all p (take_while p xs) ≡ true
 front_passes p [] = refl
 front_passes p (x ∷ xs) = rw (take_while-cons p x xs) (first_passes p x (take_while p xs) (p x) refl (front_passes p xs))
 
@@ -25,7 +25,7 @@ first_taken : (p : ℕ → Bool) (x : ℕ) (xs front : List ℕ) (b : Bool) → 
 first_taken p x xs front true h = ap (λ l. x ∷ l) h
 first_taken p x xs front false h = refl
 
-front_taken : (p : ℕ → Bool) (xs : List ℕ) → take (length (take_while p xs)) xs ≡ take_while p xs
+pub front_taken : (p : ℕ → Bool) (xs : List ℕ) → take (length (take_while p xs)) xs ≡ take_while p xs
 front_taken p [] = refl
 front_taken p (x ∷ xs) = rw (take_while-cons p x xs) (first_taken p x xs (take_while p xs) (p x) (front_taken p xs))
 
@@ -45,8 +45,11 @@ and_right : (a b : Bool) → (a && b) ≡ true → b ≡ true
 and_right true b h = h
 and_right false b h = absurd (false≢true h)
 
-digit_is : (d : ℕ) → is_ascii_digit d ≡ true → digit_value d ≡ d - 48
+pub digit_is : (d : ℕ) → is_ascii_digit d ≡ true → digit_value d ≡ d - 48
 digit_is d h = grind (arith, nat_tests)
+
+pub digit_from : (d : ℕ) → is_ascii_digit d ≡ true → 48 ≤ d
+digit_from d h = grind (arith, nat_tests)
 
 take_passes : (p : ℕ → Bool) (n : ℕ) (xs : List ℕ) → list_all p xs ≡ true → list_all p (take n xs) ≡ true
 take_passes p zero xs h = refl

@@ -1,10 +1,10 @@
 -- What the rounding's floor says.
 use Rattle.std.proofs.lemmas.Bool.{cases_lt}
-use Rattle.std.proofs.Common.{inl, inr, ◌-◌, sym, ◌∙◌, ◌≡◌, ℕ, ◌+◌, ◌*◌, ◌/◌, ◌<◌, ◌≤◌, zero, suc, refl, arith, ap, subst}
+use Rattle.std.proofs.Common.{inl, inr, ◌-◌, ◌≡◌, ℕ, ◌+◌, ◌*◌, ◌/◌, ◌<◌, ◌≤◌, refl, arith}
 use Rattle.std.specs.Prelude.{ℤ, pos, negsuc, ◌+ℤ◌, ◌*ℤ◌, ◌≤ℤ◌, ◌<ℤ◌, unsigned_abs}
 use Rattle.std.specs.Int.{int_div_euclid}
 use Rattle.std.proofs.lemmas.Int.{ints}
-use Rattle.std.proofs.Math.Nat.{div-mul-le_self, lt-div-mul-add, div-lt_iff_lt-mul, mul-le-mul_left}
+use Rattle.std.proofs.Math.Nat.{div-mul-le_self, lt-div-mul-add, div-lt_iff_lt-mul, mul-le-mul_left, mul-le-mul_right}
 use Rattle.fix_num.specs.Rounding.{rounded, IsNearest}
 
 -- a floor by a positive divisor, times the divisor
@@ -47,3 +47,51 @@ rounded_size (negsuc m) b some = elim (cases_lt b (2 * m + 2)) [
 pub size_of_rounded : (a b : ℤ) → pos 0 <ℤ b → unsigned_abs (rounded a b) ≤ unsigned_abs a
 size_of_rounded a (pos b) some = rounded_size a b (omega (arith, ints))
 size_of_rounded a (negsuc b) some = absurd (omega (arith, ints))
+
+-- ---- the nearest
+
+-- a multiple that is below the one after another is no greater than that
+no_greater : (m n : ℤ) (d : ℕ) → (m *ℤ pos d) <ℤ ((n *ℤ pos d) +ℤ pos d) → m ≤ℤ n
+no_greater (pos m) (pos n) d h = elim (cases_lt n m) [
+  | inl more ↦ let far = mul-le-mul_right {m = n + 1} {n = m} d (omega arith) in absurd (omega (arith, ints, far))
+  | inr less ↦ omega (arith, ints)
+]
+no_greater (pos m) (negsuc n) d h = absurd (omega (arith, ints))
+no_greater (negsuc m) (pos n) d h = omega (arith, ints)
+no_greater (negsuc m) (negsuc n) d h = elim (cases_lt m n) [
+  | inl more ↦ let far = mul-le-mul_right {m = m + 1} {n = n} d (omega arith) in absurd (omega (arith, ints, far))
+  | inr less ↦ omega (arith, ints)
+]
+
+-- the multiples of 2 * b, as twice those of b
+doubled : (r : ℤ) (b : ℕ) → pos 2 *ℤ (r *ℤ pos b) ≡ r *ℤ pos (2 * b)
+doubled (pos r) b = omega (arith, ints)
+doubled (negsuc r) b = omega (arith, ints)
+
+nearest_from_floor : (a q : ℤ) (b : ℕ) → (q *ℤ pos (2 * b)) ≤ℤ ((pos 2 *ℤ a) +ℤ pos b)
+    → ((pos 2 *ℤ a) +ℤ pos b) <ℤ ((q *ℤ pos (2 * b)) +ℤ pos (2 * b)) → IsNearest a (pos b) q
+nearest_from_floor a q b low high =
+    let same = doubled q b in
+    record { not_above = omega (arith, ints); not_below = omega (arith, ints) }
+
+pub nearest : (a b : ℤ) → pos 0 <ℤ b → IsNearest a b (rounded a b)
+unfolding rounded
+nearest a (pos b) some =
+    let floor = floor_is ((pos 2 *ℤ a) +ℤ pos b) (2 * b) (omega (arith, ints)) in
+    nearest_from_floor a (rounded a (pos b)) b floor.0 floor.1
+nearest a (negsuc b) some = absurd (omega (arith, ints))
+
+-- two that are nearest are no greater than each other
+no_greater_nearest : (a r q : ℤ) (b : ℕ) → IsNearest a (pos b) r → IsNearest a (pos b) q → r ≤ℤ q
+no_greater_nearest a r q b h k =
+    let left = doubled r b in
+    let right = doubled q b in
+    no_greater r q (2 * b) (omega (arith, ints))
+
+pub nearest_only : (a b r : ℤ) → pos 0 <ℤ b → IsNearest a b r → r ≡ rounded a b
+nearest_only a (pos b) r some h =
+    let own = nearest a (pos b) some in
+    let up = no_greater_nearest a r (rounded a (pos b)) b h own in
+    let down = no_greater_nearest a (rounded a (pos b)) r b own h in
+    omega (arith, ints)
+nearest_only a (negsuc b) r some h = absurd (omega (arith, ints))

@@ -1,5 +1,5 @@
 -- Decimals as text, after CSS Values and Units Level 3, section 4.2 (real numbers), without exponents.
-use Rattle.std.specs.Prelude.{◌≡◌, ◌⊎◌, ℕ, ◌-◌, ◌<◌, ◌≤◌, ℤ, pos, neg_ℤ, unsigned_abs, Bool, true, false, not, ◌&&◌, ◌==◌, nat_lt, nat_le, cond, if◌then◌else◌, List, [], ◌∷◌, ◌++◌, length, take, drop, replicate, take_while, slice_index, IsTrue, Option, None, Some, Result, Ok, Err, option_map, unwrap_or}
+use Rattle.std.specs.Prelude.{◌≡◌, ◌⊎◌, ℕ, ◌-◌, ◌<◌, ℤ, pos, neg_ℤ, unsigned_abs, Bool, true, false, ◌&&◌, ◌==◌, nat_lt, nat_le, if◌then◌else◌, List, [], ◌∷◌, ◌++◌, length, take, drop, replicate, take_while, slice_index, IsTrue, Option, None, Some, Result, Ok, Err, option_map, unwrap_or}
 use Rattle.std.specs.List.{list_all}
 use Rattle.std.specs.Char.{is_ascii_digit}
 use Rattle.std.specs.Str.Parse.{digits_value}
@@ -35,6 +35,7 @@ pub record IsDecimal (text : List ℕ) (d : Decimal) : Type 0 where
 
 -- ---- what number it stands for
 
+-- the number of this size and sign
 abbrev pub signed : Bool → ℕ → ℤ
 signed negative n = (if negative then neg_ℤ (pos n) else pos n)
 
@@ -52,16 +53,17 @@ Stands places text v = (d : Decimal) × IsDecimal text d × IsTrue (is_exact pla
 
 -- ---- the same as functions
 
-abbrev pub decimal : Bool → List ℕ → List ℕ → Decimal
-decimal negative whole fraction = record { negative = negative; whole = whole; fraction = fraction }
+-- the decimal of these parts
+abbrev pub decimal_from : Bool → List ℕ → List ℕ → Decimal
+decimal_from negative whole fraction = record { negative = negative; whole = whole; fraction = fraction }
 
 -- the decimal with these digits before the point, where the rest is nothing or a point with digits
 abbrev pub with_fraction : Bool → List ℕ → List ℕ → Option Decimal
 with_fraction negative whole rest =
     (if length rest == 0
-    then (if length whole == 0 then None else Some (decimal negative whole []))
+    then (if length whole == 0 then None else Some (decimal_from negative whole []))
     else if slice_index rest 0 == 46 && nat_lt 1 (length rest) && are_digits (drop 1 rest)
-    then Some (decimal negative whole (drop 1 rest))
+    then Some (decimal_from negative whole (drop 1 rest))
     else None)
 
 -- the decimal without a sign that the text is
@@ -78,9 +80,11 @@ decimal_of text =
     else if slice_index text 0 == 43 then unsigned_of false (drop 1 text)
     else unsigned_of false text)
 
+-- the number, unless its size passes the limit
 abbrev pub within : ℕ → ℤ → Result ℤ NumFault
 within limit v = (if nat_le (unsigned_abs v) limit then Ok v else Err TooLarge)
 
+-- the decimal's number, or the first of the faults that one can have
 abbrev pub exact_reading : ℕ → ℕ → Decimal → Result ℤ NumFault
 exact_reading places limit d = (if is_exact places d then within limit (signed d.negative (units_of places d)) else Err TooFine)
 

@@ -2,4 +2,5 @@ pub mod Decimal
 pub mod Digits
 pub mod Parts
 pub mod Print
+pub mod Rounded
 pub mod Rounding

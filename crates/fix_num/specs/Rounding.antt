@@ -6,7 +6,7 @@ use Rattle.std.specs.Int.{int_div_euclid}
 unfoldable pub rounded : ℤ → ℤ → ℤ
 rounded a b = int_div_euclid (pos 2 *ℤ a +ℤ b) (pos 2 *ℤ b)
 
--- r is within a half of a / b, and half below it at most where two numbers are as near
+-- r is at most a half above a / b, and less than a half below it
 pub record IsNearest (a b r : ℤ) : Type 0 where
   pub not_above : (pos 2 *ℤ (r *ℤ b)) ≤ℤ (pos 2 *ℤ a +ℤ b)
   pub not_below : (pos 2 *ℤ a) <ℤ (pos 2 *ℤ (r *ℤ b) +ℤ b)

@@ -4,7 +4,7 @@ ghost use Rattle.std.specs.List.{list_all};
 ghost use Rattle.std.specs.Char.{is_ascii_digit};
 ghost use Rattle.std.specs.Str.Parse.{digits_value_after};
 ghost use Rattle.fix_num.specs.Digits.{are_digits};
-ghost use Rattle.fix_num.specs.Decimal.{reading_of, exact_reading, decimal_of, unsigned_of, with_fraction, units_of};
+ghost use Rattle.fix_num.specs.Decimal.{reading_of, exact_reading, decimal_of, unsigned_of, with_fraction, units_of, within, signed};
 ghost use Rattle.fix_num.specs.Parts.{decimal_parts};
 
 use crate::parts::Parts;
@@ -53,16 +53,23 @@ fn exact_number(parts: &Parts, places: usize, limit: u64) -> Result<i64, NumFaul
     if !is_exact_at(parts.fraction, places) {
         return Err(NumFault::TooFine);
     }
-    let units = units_at(parts, places);
-    if units > limit {
+    number_within(parts.negative, units_at(parts, places), limit)
+}
+
+/// The number of this size, unless that passes the limit.
+pub(crate) fn number_within(negative: bool, size: u64, limit: u64) -> Result<i64, NumFault>
+    requires { limit < 2 ^ 63 }
+    ensures { result ≡ within limit (signed negative size) }
+{
+    if size > limit {
         return Err(NumFault::TooLarge);
     }
-    let size = units as i64;
-    Ok(if parts.negative { -size } else { size })
+    let size = size as i64;
+    Ok(if negative { -size } else { size })
 }
 
 #[tactic(auto, unfolding(crate::specs::Decimal::decimal_of))]
-fn split(text: &[u8]) -> Option<Parts<'_>>
+pub(crate) fn split(text: &[u8]) -> Option<Parts<'_>>
     ensures { option_map decimal_parts result ≡ decimal_of text.now }
 {
     if text.is_empty() {
@@ -131,7 +138,8 @@ fn are_all_digits(text: &[u8]) -> bool
     text.iter().all(|b| b.is_ascii_digit())
 }
 
-fn is_exact_at(fraction: &[u8], places: usize) -> bool
+/// Whether only zeros stand after this place.
+pub(crate) fn is_exact_at(fraction: &[u8], places: usize) -> bool
     ensures { result ≡ list_all (λ c. c == 48) (drop places fraction.now) }
 {
     fraction.iter().skip(places).all(|digit| *digit == b'0')
@@ -144,7 +152,7 @@ const OVER: u128 = 1 << 63;
 
 /// The number of units of `10^-places`, or `OVER` where it is more.
 #[tactic(auto, using(crate::proofs::DecimalLemmas::are_digits_take, crate::proofs::DecimalLemmas::are_digits_zeros))]
-fn units_at(parts: &Parts, places: usize) -> u64
+pub(crate) fn units_at(parts: &Parts, places: usize) -> u64
     requires { places ≤ 9 }
     ensures { result ≡ min (units_of places (decimal_parts parts.now)) (2 ^ 63) }
 {

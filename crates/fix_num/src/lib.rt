@@ -3,12 +3,17 @@
 #![tactic(auto)]
 
 mod decimal;
+pub mod laws;
 mod parts;
 mod print;
+mod rounded;
 mod rounding;
+#[cfg(test)]
+mod tests;
 mod units;
 
 pub use decimal::{NumFault, read_decimal, read_decimal_bytes};
 pub use print::print_fix;
+pub use rounded::{read_rounded, read_rounded_bytes};
 pub use rounding::rnd;
 pub use units::{Bill, Fix, Micros};

@@ -1,6 +1,3 @@
-use Rattle.std.proofs.Common.{ap, ◌∙◌, subst, sym, take}
-use Rattle.std.specs.Prelude.{IsTrue}
-use Rattle.fix_num.specs.Digits.{are_digits}
 use Rattle.fix_num.proofs.DecimalLemmas.{are_digits_front}
 use Rattle.fix_num.proofs.decimal.split_digits.Goals as goal
 

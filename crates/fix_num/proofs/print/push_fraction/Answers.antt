@@ -1,4 +1,4 @@
-use Rattle.std.proofs.Common.{arith, ap, ◌-◌, ◌<◌, ◌^◌, ◌≡◌}
+use Rattle.std.proofs.Common.{arith}
 use Rattle.fix_num.proofs.PrintLemmas.{place_left, digit_pushed, fraction_done, starts_with_more}
 use Rattle.fix_num.proofs.print.push_fraction.Goals as goal
 
