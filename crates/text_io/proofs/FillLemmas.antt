@@ -7,8 +7,8 @@ use Rattle.std.proofs.lemmas.List.Elements.{All-same, All-take, All-drop, All-ni
 use Rattle.std.specs.Io.BufRead.{strip_last}
 use Rattle.std.specs.Io.KnownBytes.{Consumes, IsAtEnd, prepend_known}
 use Rattle.text_io.specs.Told.{Told}
-use Rattle.text_io.specs.Lines.{lines_of, HasNoFeed, IsFirstFeed, SameLines, limited_text}
-use Rattle.text_io.specs.Buffer.{Fills, GivesCut}
+use Rattle.text_io.specs.Lines.{lines_of, HasNoFeed, limited_text}
+use Rattle.text_io.specs.Buffer.{IsFirstFeed, SameLines, Fills, GivesCut}
 use Rattle.text_io.proofs.LineLemmas.{NotFeed, SameLines-trimmed, lines_of-line, lines_of-last, lines_of-nil, lines_of-none}
 
 -- the bytes were filled in, and those up to the place that was searched have no line feed: neither the kept nor the others
@@ -32,7 +32,7 @@ Fills-read old kept new given taken taken' before now n clear over kept_is new_i
   gives = gives;
   count = count;
   same = λ rest. SameLines-grown old (take n old) given (SameLines-trimmed old n clear over) rest
-    ∙ ap (λ (xs : List ℕ). lines_of (xs ++ rest)) (sym (new_is ∙ ap (λ (xs : List ℕ). xs ++ given) kept_is));
+      ∙ ap (λ (xs : List ℕ). lines_of (xs ++ rest)) (sym (new_is ∙ ap (λ (xs : List ℕ). xs ++ given) kept_is));
   size = omega (arith, ap length new_is, ap length kept_is, length-append kept given, length-take n old);
 }
 
@@ -41,7 +41,7 @@ pub kept_clear : (old kept new given : List ℕ) (n : ℕ) → HasNoFeed old →
     → HasNoFeed (take (length kept) new) × (drop (length kept) new ≡ given)
 kept_clear old kept new given n clear kept_is new_is = (
   All-same NotFeed (take (length kept) new) (take n old)
-    (ap (take (length kept)) new_is ∙ take_at kept given (length kept) refl ∙ kept_is) (All-take NotFeed n old clear),
+      (ap (take (length kept)) new_is ∙ take_at kept given (length kept) refl ∙ kept_is) (All-take NotFeed n old clear),
   ap (drop (length kept)) new_is ∙ drop_at kept given (length kept) refl,
 )
 
@@ -57,7 +57,7 @@ Fills-trans a b c t u v x y z given more first second = record {
   gives = Consumes-trans x y z given more first.gives second.gives;
   count = omega (arith, first.count, second.count, length-append given more);
   same = λ rest. ap (λ (xs : List ℕ). lines_of (xs ++ rest)) (sym (append_assoc a given more))
-    ∙ SameLines-grown (a ++ given) b more first.same rest ∙ second.same rest;
+      ∙ SameLines-grown (a ++ given) b more first.same rest ∙ second.same rest;
   size = omega (arith, first.size, second.size, length-append given more);
 }
 
@@ -125,11 +125,11 @@ cut_found old mid new t u (Some x) (Some y) given at cut fills first cut_is new_
     let body = take at mid in
     let rest = drop (at + 1) mid in
     let lines : lines_of (old ++ x) ≡ limited_text body (strip_last 13 body) ∷ lines_of (new ++ y) =
-      lines_of-filled old mid t u x y given fills
-      ∙ ap (λ (xs : List ℕ). lines_of (xs ++ y)) (split_at_feed mid at first)
-      ∙ ap lines_of (append_assoc body (10 ∷ rest) y)
-      ∙ lines_of-line body (rest ++ y) first.clear
-      ∙ ap (λ (xs : List ℕ). limited_text body (strip_last 13 body) ∷ lines_of (xs ++ y)) (sym new_is) in
+    lines_of-filled old mid t u x y given fills
+    ∙ ap (λ (xs : List ℕ). lines_of (xs ++ y)) (split_at_feed mid at first)
+    ∙ ap lines_of (append_assoc body (10 ∷ rest) y)
+    ∙ lines_of-line body (rest ++ y) first.clear
+    ∙ ap (λ (xs : List ℕ). limited_text body (strip_last 13 body) ∷ lines_of (xs ++ y)) (sym new_is) in
     subst (λ (c : Option (Option (List ℕ))). GivesCut c (old ++ x) (new ++ y)) (sym cut_is) lines
 
 -- all is cut off at the end
@@ -145,9 +145,9 @@ cut_end [] old new t u (Some x) (Some y) given cut fills clear end cut_is new_is
 cut_end (b ∷ bs) old new t u (Some x) (Some y) given cut fills clear end cut_is new_is =
     let mid = b ∷ bs in
     let lines : lines_of (old ++ x) ≡ limited_text mid mid ∷ lines_of (new ++ y) =
-      lines_of-filled old mid t u x y given fills
-      ∙ ap (λ (xs : List ℕ). lines_of (mid ++ xs)) end
-      ∙ ap lines_of (append-nil mid)
-      ∙ lines_of-last mid clear (omega arith)
-      ∙ ap (λ (ls : List (Option (List ℕ))). limited_text mid mid ∷ ls) (sym (ap lines_of (ap (λ (xs : List ℕ). xs ++ y) new_is ∙ end) ∙ lines_of-nil)) in
+    lines_of-filled old mid t u x y given fills
+    ∙ ap (λ (xs : List ℕ). lines_of (mid ++ xs)) end
+    ∙ ap lines_of (append-nil mid)
+    ∙ lines_of-last mid clear (omega arith)
+    ∙ ap (λ (ls : List (Option (List ℕ))). limited_text mid mid ∷ ls) (sym (ap lines_of (ap (λ (xs : List ℕ). xs ++ y) new_is ∙ end) ∙ lines_of-nil)) in
     subst (λ (c : Option (Option (List ℕ))). GivesCut c (old ++ x) (new ++ y)) (sym (cut_is ∙ cond-false _ _ _ (ne_eqb (suc (length bs)) 0 (omega arith)))) lines

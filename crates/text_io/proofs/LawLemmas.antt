@@ -1,5 +1,5 @@
 -- The laws of the cuts and lines of bytes.
-use Rattle.std.proofs.Common.{◌≡◌, ◌≢◌, ℕ, List, [], ◌∷◌, ◌++◌, map, refl, sym, ap, ◌∙◌, subst, inl, inr, ◌⊎◌, ⊎_elim}
+use Rattle.std.proofs.Common.{◌≡◌, ◌≢◌, ℕ, List, [], ◌∷◌, ◌++◌, map, refl, sym, ap, ◌∙◌, subst, inl, inr, ⊎_elim}
 use Rattle.std.proofs.lemmas.Bool.{cases_eq}
 use Rattle.std.proofs.lemmas.List.{map-append}
 use Rattle.std.proofs.lemmas.List.Elements.{All-nil, All-cons}
@@ -17,7 +17,7 @@ concat-cuts_of (b ∷ bs) =
     ⊎_elim
     (λ (e : b ≡ 10). ap concat (cuts_of-feed b bs e) ∙ ap (λ (xs : List ℕ). b ∷ xs) (concat-cuts_of bs))
     (λ (n : b ≢ 10).
-        ap concat (cuts_of-other b bs n) ∙ concat-onto_first b (cuts_of bs) ∙ ap (λ (xs : List ℕ). b ∷ xs) (concat-cuts_of bs))
+    ap concat (cuts_of-other b bs n) ∙ concat-onto_first b (cuts_of bs) ∙ ap (λ (xs : List ℕ). b ∷ xs) (concat-cuts_of bs))
     (cases_eq b 10)
 
 -- a whole cut in front
@@ -43,8 +43,8 @@ AreCuts-cuts_of [] = subst AreCuts (sym cuts_of-nil) tt
 AreCuts-cuts_of (b ∷ bs) =
     ⊎_elim
     (λ (e : b ≡ 10).
-        let feed : IsWhole (b ∷ []) = ([], All-nil NotFeed, ap (λ (x : ℕ). x ∷ []) e) in
-        subst AreCuts (sym (cuts_of-feed b bs e)) (AreCuts-cons (b ∷ []) (cuts_of bs) feed (AreCuts-cuts_of bs)))
+    let feed : IsWhole (b ∷ []) = ([], All-nil NotFeed, ap (λ (x : ℕ). x ∷ []) e) in
+    subst AreCuts (sym (cuts_of-feed b bs e)) (AreCuts-cons (b ∷ []) (cuts_of bs) feed (AreCuts-cuts_of bs)))
     (λ (n : b ≢ 10). subst AreCuts (sym (cuts_of-other b bs n)) (AreCuts-onto b (cuts_of bs) n (AreCuts-cuts_of bs)))
     (cases_eq b 10)
 
@@ -62,14 +62,14 @@ cuts_of-joined [] second =
 cuts_of-joined (b ∷ bs) second =
     ⊎_elim
     (λ (e : b ≡ 10).
-        cuts_of-feed b _ e
-        ∙ ap (λ (cuts : List (List ℕ)). (b ∷ []) ∷ cuts) (cuts_of-joined bs second)
-        ∙ ap (λ (cuts : List (List ℕ)). cuts ++ cuts_of second) (sym (cuts_of-feed b _ e)))
+    cuts_of-feed b _ e
+    ∙ ap (λ (cuts : List (List ℕ)). (b ∷ []) ∷ cuts) (cuts_of-joined bs second)
+    ∙ ap (λ (cuts : List (List ℕ)). cuts ++ cuts_of second) (sym (cuts_of-feed b _ e)))
     (λ (n : b ≢ 10).
-        cuts_of-other b _ n
-        ∙ ap (onto_first b) (cuts_of-joined bs second)
-        ∙ onto_first-append b _ (cuts_of second) (λ none. nil-not-pushed bs 10 (cuts_of-none _ none))
-        ∙ ap (λ (cuts : List (List ℕ)). cuts ++ cuts_of second) (sym (cuts_of-other b _ n)))
+    cuts_of-other b _ n
+    ∙ ap (onto_first b) (cuts_of-joined bs second)
+    ∙ onto_first-append b _ (cuts_of second) (λ none. nil-not-pushed bs 10 (cuts_of-none _ none))
+    ∙ ap (λ (cuts : List (List ℕ)). cuts ++ cuts_of second) (sym (cuts_of-other b _ n)))
     (cases_eq b 10)
 
 pub lines_of-joined : (first second : List ℕ) → lines_of (first ++ 10 ∷ [] ++ second) ≡ lines_of (first ++ 10 ∷ []) ++ lines_of second

@@ -1,10 +1,11 @@
 -- The cuts and lines of bytes in front of other bytes.
-use Rattle.std.proofs.Common.{◌≡◌, ◌≢◌, ℕ, suc, ◌+◌, ◌-◌, ◌<◌, ◌≤◌, Bool, true, false, cond, List, [], ◌∷◌, ◌++◌, length, take, map, Some, None, Option, refl, sym, ap, ◌∙◌, subst, inl, inr, ◌⊎◌, ⊎_elim, append_assoc, append-nil, length-append, arith, eqb, leb, ne_eqb, eq-eqb, lt-ltb, le-ltb, get_or}
+use Rattle.std.proofs.Common.{◌≡◌, ◌≢◌, ℕ, suc, ◌-◌, ◌<◌, ◌≤◌, true, false, List, [], ◌∷◌, ◌++◌, length, take, map, None, Option, refl, sym, ap, ◌∙◌, ⊎_elim, append_assoc, append-nil, arith, ne_eqb, eq-eqb, lt-ltb}
 use Rattle.std.proofs.lemmas.Bool.{cases_eq, cases_lt, cond-true, cond-false, lt-leb, and_from, and_right}
 use Rattle.std.proofs.lemmas.List.{length_push, get_or_push, take_at, take_all, length-take}
 use Rattle.std.proofs.lemmas.List.Elements.{All-head, All-tail, All-push, All-take, All-get_or}
 use Rattle.std.specs.Io.BufRead.{ends_with_byte, strip_last, drop_through}
-use Rattle.text_io.specs.Lines.{limited_text, onto_first, cuts_of, text_of, lines_of, HasNoFeed, IsWhole, AreCuts, SameLines, before_feed, without_ending}
+use Rattle.text_io.specs.Buffer.{SameLines}
+use Rattle.text_io.specs.Lines.{limited_text, onto_first, cuts_of, text_of, lines_of, HasNoFeed, without_ending}
 
 -- a byte is no line feed
 abbrev pub NotFeed : ℕ → Type 0
@@ -93,15 +94,15 @@ long_line [] body clear over =
 long_line (b ∷ rest) body clear over =
     ⊎_elim
     (λ (e : b ≡ 10).
-        ap (λ (x : ℕ). lines_of (body ++ x ∷ rest)) e
-        ∙ lines_of-line body rest clear
-        ∙ ap (λ (t : Option (List ℕ)). t ∷ lines_of rest) (limited_text-over body _ over)
-        ∙ sym (ap (λ (xs : List ℕ). None ∷ lines_of xs) (cond-true _ _ _ (eq-eqb b 10 e))))
+    ap (λ (x : ℕ). lines_of (body ++ x ∷ rest)) e
+    ∙ lines_of-line body rest clear
+    ∙ ap (λ (t : Option (List ℕ)). t ∷ lines_of rest) (limited_text-over body _ over)
+    ∙ sym (ap (λ (xs : List ℕ). None ∷ lines_of xs) (cond-true _ _ _ (eq-eqb b 10 e))))
     (λ (n : b ≢ 10).
-        let grown = length_push body b in
-        ap lines_of (sym (append_assoc body (b ∷ []) rest))
-        ∙ long_line rest (body ++ b ∷ []) (All-push NotFeed body b clear n) (omega arith)
-        ∙ sym (ap (λ (xs : List ℕ). None ∷ lines_of xs) (cond-false _ _ _ (ne_eqb b 10 n))))
+    let grown = length_push body b in
+    ap lines_of (sym (append_assoc body (b ∷ []) rest))
+    ∙ long_line rest (body ++ b ∷ []) (All-push NotFeed body b clear n) (omega arith)
+    ∙ sym (ap (λ (xs : List ℕ). None ∷ lines_of xs) (cond-false _ _ _ (ne_eqb b 10 n))))
     (cases_eq b 10)
 
 -- of a line over the limit one byte over it is enough
@@ -109,8 +110,8 @@ pub SameLines-trimmed : (body : List ℕ) (n : ℕ) → HasNoFeed body → 10485
 SameLines-trimmed body n clear over =
     ⊎_elim
     (λ (long : n < length body). λ rest.
-        let cut = length-take n body in
-        long_line rest body clear (omega arith) ∙ sym (long_line rest (take n body) (All-take NotFeed n body clear) (omega arith)))
+    let cut = length-take n body in
+    long_line rest body clear (omega arith) ∙ sym (long_line rest (take n body) (All-take NotFeed n body clear) (omega arith)))
     (λ (short : length body ≤ n). λ rest. ap (λ (xs : List ℕ). lines_of (xs ++ rest)) (sym (take_all n body short)))
     (cases_lt n (length body))
 

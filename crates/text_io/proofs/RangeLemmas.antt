@@ -1,13 +1,14 @@
 -- The part of a buffer from one place up to another.
-use Rattle.std.proofs.Common.{◌≡◌, ℕ, ◌+◌, ◌-◌, ◌<◌, ◌≤◌, List, [], ◌∷◌, ◌++◌, length, take, drop, refl, sym, ap, ◌∙◌, arith, eq-eqb, eqb-true, zero-le, take-add, Some, None, Option, Result, Ok, Err, IfOk}
+use Rattle.std.proofs.Common.{◌≡◌, ℕ, ◌+◌, ◌-◌, ◌<◌, ◌≤◌, List, ◌++◌, length, take, drop, sym, ap, ◌∙◌, arith, eq-eqb, eqb-true, zero-le, take-add, Some, None, Option, Result, Ok, Err, IfOk}
 use Rattle.std.specs.Io.{ReadsAtMost}
 use Rattle.std.specs.Io.KnownBytes.{ReadConsumes, Consumes}
 use Rattle.std.specs.List.{slice_range}
 use Rattle.std.proofs.lemmas.Slice.{between_is}
-use Rattle.std.proofs.lemmas.List.{take-take, drop-drop, drop-append-le, take-append-le, length-take, length-take-le, take_at, drop_at, get_or-take, get_or-drop, length-drop, take-append-drop, take_all}
+use Rattle.std.proofs.lemmas.List.{take-take, drop-drop, drop-append-le, take-append-le, length-take, length-take-le, take_at, drop_at, get_or-take, get_or-drop, length-drop, take-append-drop}
 use Rattle.std.proofs.lemmas.List.Elements.{All-from_get_or, All-append, All-same}
 use Rattle.memchr.specs.Find.{IsFirstByte, is_byte}
-use Rattle.text_io.specs.Lines.{HasNoFeed, IsFirstFeed}
+use Rattle.text_io.specs.Lines.{HasNoFeed}
+use Rattle.text_io.specs.Buffer.{IsFirstFeed}
 use Rattle.text_io.proofs.LineLemmas.{NotFeed}
 
 pub range_consumed : (xs : List ℕ) (a b n : ℕ) → slice_range xs (a + n) b ≡ drop n (slice_range xs a b)
@@ -61,7 +62,7 @@ pub found_none : (xs : List ℕ) (from : ℕ) → from ≤ length xs → HasNoFe
 found_none xs from within clear none =
     let ys = drop from xs in
     All-same NotFeed xs (take from xs ++ ys) (sym (take-append-drop from xs)) (All-append NotFeed (take from xs) ys clear
-        (All-from_get_or NotFeed ys 0 (λ i lt. λ e. none i zero-le lt (eq-eqb _ 10 e))))
+    (All-from_get_or NotFeed ys 0 (λ i lt. λ e. none i zero-le lt (eq-eqb _ 10 e))))
 
 -- what a read gave to the part of a buffer behind its first bytes
 pub read_behind : {E : Type 0} (r : Result ℕ E) (before now : Option (List ℕ)) (buf old rest : List ℕ) (from : ℕ) → from ≤ length old

@@ -1,16 +1,27 @@
 -- The buffer of a reader of lines: what is read into it, and what is cut off its front.
-use Rattle.std.specs.Prelude.{◌≡◌, ℕ, ◌+◌, ◌≤◌, List, [], ◌++◌, length, slice_range, Option, None, Some, ⊤}
+use Rattle.std.specs.Prelude.{◌≡◌, ℕ, ◌+◌, ◌<◌, ◌≤◌, List, [], ◌++◌, length, take, slice_index, slice_range, Option, None, Some, ⊤}
 use Rattle.std.specs.Io.KnownBytes.{Consumes}
 use Rattle.text_io.specs.declared.buffer.Buffer.{Buffer}
 use Rattle.text_io.specs.declared.buffer.TheConstants.{CAPACITY}
 use Rattle.text_io.specs.declared.cut.Cut.{Cut}
 use Rattle.text_io.specs.declared.cut.Cut.TheVariants.{Text, Long, End}
-use Rattle.text_io.specs.Lines.{SameLines}
+use Rattle.text_io.specs.declared.limits.TheConstants.{LINE_FEED}
+use Rattle.text_io.specs.Lines.{HasNoFeed, lines_of}
 use Rattle.text_io.specs.Reader.{GivesLine}
 
 -- the bytes that are in no line yet
 abbrev pub pending_of : Buffer → List ℕ
 pending_of buffer = slice_range buffer.bytes.items buffer.start buffer.end
+
+-- the first line feed stands at this place
+pub record IsFirstFeed (bytes : List ℕ) (at : ℕ) : Type 0 where
+  pub within : at < length bytes
+  pub clear : HasNoFeed (take at bytes)
+  pub here : slice_index bytes at ≡ LINE_FEED
+
+-- whatever follows them, the lines are the same
+abbrev pub SameLines : List ℕ → List ℕ → Type 0
+SameLines xs ys = (rest : List ℕ) → lines_of (xs ++ rest) ≡ lines_of (ys ++ rest)
 
 -- a source with these bytes left before and now gave some more: they are counted, the lines are those of all bytes, and no
 -- more bytes than these are kept

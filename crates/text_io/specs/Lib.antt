@@ -5,3 +5,4 @@ pub mod Reader
 pub mod Buffer
 pub mod Memory
 pub mod View
+pub mod Std

@@ -1,5 +1,5 @@
 -- The lines of a text's bytes.
-use Rattle.std.specs.Prelude.{◌≡◌, ◌≢◌, ℕ, List, [], ◌∷◌, ◌++◌, length, take, slice_index, ◌<◌, map, All, nat_le, ◌==◌, if◌then◌else◌, Option, None, Some, ⊤, ◌⊎◌}
+use Rattle.std.specs.Prelude.{◌≡◌, ◌≢◌, ℕ, List, [], ◌∷◌, ◌++◌, length, map, All, nat_le, ◌==◌, if◌then◌else◌, Option, None, Some, ⊤, ◌⊎◌}
 use Rattle.std.specs.Io.BufRead.{ends_with_byte, strip_last}
 use Rattle.text_io.specs.declared.limits.TheConstants.{LINE_FEED, CARRIAGE_RETURN, MAX_LINE}
 
@@ -37,12 +37,6 @@ lines_of bytes = map text_of (cuts_of bytes)
 abbrev pub HasNoFeed : List ℕ → Type 0
 HasNoFeed bytes = All (λ b. b ≢ LINE_FEED) bytes
 
--- the first line feed stands at this place
-pub record IsFirstFeed (bytes : List ℕ) (at : ℕ) : Type 0 where
-  pub within : at < length bytes
-  pub clear : HasNoFeed (take at bytes)
-  pub here : slice_index bytes at ≡ LINE_FEED
-
 -- a cut that ends in a line feed and has no other
 abbrev pub IsWhole : List ℕ → Type 0
 IsWhole cut = (body : List ℕ) × HasNoFeed body × (cut ≡ body ++ LINE_FEED ∷ [])
@@ -52,7 +46,3 @@ abbrev pub AreCuts : List (List ℕ) → Type 0
 AreCuts [] = ⊤
 AreCuts (cut ∷ []) = IsWhole cut ⊎ ((cut ≢ []) × HasNoFeed cut)
 AreCuts (cut ∷ next ∷ cuts) = IsWhole cut × AreCuts (next ∷ cuts)
-
--- whatever follows them, the lines are the same
-abbrev pub SameLines : List ℕ → List ℕ → Type 0
-SameLines xs ys = (rest : List ℕ) → lines_of (xs ++ rest) ≡ lines_of (ys ++ rest)

@@ -1,5 +1,5 @@
 -- What a reader of lines is seen as, and what its calls do.
-use Rattle.std.specs.Prelude.{◌≡◌, ℕ, ◌+◌, ◌-◌, ◌*◌, List, ◌∷◌, ◌++◌, length, Option, None, Some}
+use Rattle.std.specs.Prelude.{◌≡◌, ℕ, ◌+◌, ◌-◌, ◌*◌, List, ◌∷◌, ◌++◌, length, Option}
 use Rattle.std.specs.Io.KnownBytes.{prepend_known}
 use Rattle.text_io.specs.declared.limits.TheConstants.{MAX_INPUT}
 use Rattle.text_io.specs.declared.fault.LineFault.{LineFault}

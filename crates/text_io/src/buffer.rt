@@ -4,7 +4,7 @@ ghost use Rattle.std.specs.Io.KnownBytes.{Consumes, Keeps, IsAtEnd};
 ghost use Rattle.text_io.specs.Causes.{HasCause};
 ghost use Rattle.text_io.specs.declared.limits.TheConstants.{MAX_INPUT};
 ghost use Rattle.text_io.specs.declared.buffer.TheConstants.{CAPACITY};
-ghost use Rattle.text_io.specs.Lines.{HasNoFeed, IsFirstFeed};
+ghost use Rattle.text_io.specs.Lines.{HasNoFeed};
 
 use crate::fault::Failed;
 use crate::limits::{LINE_FEED, MAX_INPUT, MAX_LINE};
@@ -52,7 +52,7 @@ fn read_to<S: Source>(
 }
 
 impl Buffer {
-    ghost use Rattle.text_io.specs.Buffer.{pending_of};
+    ghost use Rattle.text_io.specs.Buffer.{pending_of, IsFirstFeed};
 
     pub(crate) fn new(alloc: Global) -> Result<Buffer, AllocError>
         ensures pending { IfOk result (λ buffer. pending_of buffer ≡ []) }

@@ -3,10 +3,10 @@ ghost use Rattle.std.specs.Prelude.{◌≡◌, ◌↔◌, ℕ, ◌+◌, ◌-◌,
 ghost use Rattle.std.specs.Io.BufRead.{strip_last};
 ghost use Rattle.std.specs.Io.KnownBytes.{IsAtEnd, prepend_known};
 ghost use Rattle.text_io.specs.Causes.{Rose, HasCause};
-ghost use Rattle.text_io.specs.Lines.{HasNoFeed, IsFirstFeed, limited_text};
+ghost use Rattle.text_io.specs.Lines.{HasNoFeed, limited_text};
 ghost use Rattle.text_io.specs.Reader.{IsTaken};
 ghost use Rattle.text_io.specs.Told.{Told};
-ghost use Rattle.text_io.specs.Buffer.{pending_of, Fills, line_of_cut, IsWithin, GivesCut};
+ghost use Rattle.text_io.specs.Buffer.{pending_of, IsFirstFeed, Fills, line_of_cut, IsWithin, GivesCut};
 
 use crate::buffer::{Buffer, CAPACITY};
 use crate::cut::{Cut, Span};
@@ -15,7 +15,7 @@ use crate::limits::{CARRIAGE_RETURN, LINE_FEED, MAX_INPUT, MAX_LINE};
 use crate::source::Source;
 
 /// Where the text of a line ends: before a carriage return at the line's end.
-fn text_end(bytes: &[u8], from: usize, to: usize) -> usize
+pub(crate) fn text_end(bytes: &[u8], from: usize, to: usize) -> usize
     requires ordered { from ≤ to }
     requires within { to ≤ length bytes.now }
     ensures low { from ≤ result }
@@ -64,7 +64,8 @@ fn cut_rest(buffer: &mut Buffer) -> Cut
     if to - from > MAX_LINE {
         return Cut::Long;
     }
-    Cut::Text(Span { from, to })
+    let span = Span { from, to };
+    Cut::Text(span)
 }
 
 /// Reads once more, where all bytes were searched: how many of them stay in front, or None where the source is at its end.
@@ -73,10 +74,10 @@ fn read_more<S: Source>(buffer: &mut Buffer, source: &mut S) -> Result<Option<us
     requires limited { buffer.old.taken ≤ MAX_INPUT }
     ensures given { (given : List ℕ)
         × Fills (pending_of buffer.old) (pending_of buffer.new) buffer.old.taken buffer.new.taken
-            (S.left source.old) (S.left source.new) given
+        (S.left source.old) (S.left source.new) given
         × IfOk result (λ kept. MatchOption kept (HasNoFeed (pending_of buffer.new))
-            (λ n. (0 < length given) × (n ≤ length (pending_of buffer.new))
-                × HasNoFeed (take n (pending_of buffer.new)) × (drop n (pending_of buffer.new) ≡ given))) }
+        (λ n. (0 < length given) × (n ≤ length (pending_of buffer.new))
+        × HasNoFeed (take n (pending_of buffer.new)) × (drop n (pending_of buffer.new) ≡ given))) }
     ensures end { IfOk result (λ kept. MatchOption kept (IsAtEnd (S.left source.new)) (λ _. buffer.new.taken ≤ MAX_INPUT)) }
     ensures limit { OnOk result (buffer.new.taken ≤ MAX_INPUT) }
     ensures too_much { (result ≡ Err LineFault.TooMuch) ↔ (MAX_INPUT < buffer.new.taken) }
@@ -103,7 +104,7 @@ fn fill_line<S: Source>(buffer: &mut Buffer, source: &mut S) -> Result<Option<us
     requires { buffer.old.taken ≤ MAX_INPUT }
     ensures given { (given : List ℕ)
         × Fills (pending_of buffer.old) (pending_of buffer.new) buffer.old.taken buffer.new.taken
-            (S.left source.old) (S.left source.new) given
+        (S.left source.old) (S.left source.new) given
         × (result ≡ Err LineFault.TooMuch → HasNoFeed (pending_of buffer.old ++ take (MAX_INPUT - buffer.old.taken) given)) }
     ensures found { IfOk result (λ found. MatchOption found
         (HasNoFeed (pending_of buffer.new) × IsAtEnd (S.left source.new))

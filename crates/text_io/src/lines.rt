@@ -50,10 +50,10 @@ impl Model for Lines {
     ghost use Rattle.text_io.specs.View.{fault_of, text_in, IsSound};
 
     ghost view = { λ lines. record {
-        pending = pending_of lines.buffer;
-        taken = lines.buffer.taken;
-        fault = fault_of lines.state;
-        text = text_in lines.buffer.bytes.items lines.state
+      pending = pending_of lines.buffer;
+      taken = lines.buffer.taken;
+      fault = fault_of lines.state;
+      text = text_in lines.buffer.bytes.items lines.state;
     } };
 
     ghost invariant = { λ lines. IsSound lines.buffer.taken lines.state };
@@ -79,7 +79,7 @@ impl Lines {
             Told (stream_of self.old (S.left source.old)) (stream_of self.new (S.left source.new)) (GivesLine None) }
         ensures end { result ≡ Ok Line.End →
             Told (stream_of self.old (S.left source.old)) (stream_of self.new (S.left source.new))
-                (λ before after. (before ≡ []) × (after ≡ [])) }
+            (λ before after. (before ≡ []) × (after ≡ [])) }
         ensures lent { IsSome self.new.text ↔ (result ≡ Ok Line.Text) }
 
         // What the source gave is counted, and each line is a step towards an end.

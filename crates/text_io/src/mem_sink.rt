@@ -18,7 +18,7 @@ pub struct MemSink {
     room: usize,
     most: usize,
     schedule: Schedule,
-    empties: u64,
+    empty_writes: u64,
 }
 
 impl Model for MemSink {
@@ -28,13 +28,13 @@ impl Model for MemSink {
     ghost Value = { SinkState };
 
     ghost view = { λ s. record {
-        bytes = s.bytes.items;
-        room = s.room;
-        most = s.most;
-        failing = s.schedule.failing.items;
-        calls = s.schedule.calls;
-        failures = s.schedule.failures;
-        empties = s.empties
+      held = s.bytes.items;
+      room = s.room;
+      most = s.most;
+      failing = s.schedule.failing.items;
+      calls = s.schedule.calls;
+      faults = s.schedule.faults;
+      empty_writes = s.empty_writes;
     } };
 
     ghost invariant = { λ s. (vec_len s.bytes ≤ s.room) × (s.room ≤ vec_capacity s.bytes) };
@@ -45,13 +45,13 @@ impl MemSink {
     /// `failing` fail. Its memory is that of the list.
     pub fn new(room: usize, most: usize, failing: Vec<u64>) -> Result<MemSink, AllocError>
         ensures { IfOk result (λ sink. sink ≡ record {
-            bytes = [];
-            room = room;
-            most = most;
-            failing = failing.items;
-            calls = 0;
-            failures = 0;
-            empties = 0
+          held = [];
+          room = room;
+          most = most;
+          failing = failing.items;
+          calls = 0;
+          faults = 0;
+          empty_writes = 0;
         }) }
     {
         let alloc = *failing.allocator();
@@ -61,20 +61,20 @@ impl MemSink {
             room,
             most,
             schedule: Schedule::new(failing),
-            empties: 0,
+            empty_writes: 0,
         })
     }
 
     /// The bytes that it took.
     pub fn bytes(&self) -> &[u8]
-        ensures { result.now ≡ self.now.bytes }
+        ensures { result.now ≡ self.now.held }
     {
         &self.bytes
     }
 
     fn keep(&mut self, bytes: &[u8]) -> usize
         ensures count { result ≡ taken_count self.old (length bytes.now) }
-        ensures kept { self.new ≡ record self.old { bytes = self.old.bytes ++ take result bytes.now } }
+        ensures kept { self.new ≡ record self.old { held = self.old.held ++ take result bytes.now } }
     {
         let room = self.room - self.bytes.len();
         let count = bytes.len().min(room).min(self.most);
@@ -84,31 +84,31 @@ impl MemSink {
 }
 
 impl Sink for MemSink {
-    ghost held = { λ s. Some s.bytes };
+    ghost held = { λ s. Some s.held };
 
-    ghost faults = { λ s. s.failures };
+    ghost faults = { λ s. s.faults };
 
-    ghost empty_writes = { λ s. s.empties };
+    ghost empty_writes = { λ s. s.empty_writes };
 
     fn write(&mut self, bytes: &[u8]) -> Result<usize, Failed>
         ensures bound { WritesAtMost result bytes.now }
-        ensures bytes { WriteAppends (Some self.old.bytes) (Some self.new.bytes) result bytes.now }
-        ensures cause { HasCause self.old.failures self.new.failures result }
-        ensures empty { HasEmptyCause self.old.empties self.new.empties result bytes.now }
+        ensures bytes { WriteAppends (Some self.old.held) (Some self.new.held) result bytes.now }
+        ensures cause { HasCause self.old.faults self.new.faults result }
+        ensures empty { HasEmptyCause self.old.empty_writes self.new.empty_writes result bytes.now }
 
         // Exactly the listed calls fail, and these are counted.
         ensures fails { IsErr result ↔ IsListed self.old.failing self.old.calls }
         ensures failed { OnErr result (self.new ≡ record self.old {
-            calls = counted self.old.calls;
-            failures = self.old.failures + 1
+          calls = counted self.old.calls;
+          faults = self.old.faults + 1;
         }) }
 
         // The others take as many bytes as they can, and are counted where that is none of some.
         ensures count { IfOk result (λ n. n ≡ taken_count self.old (length bytes.now)) }
         ensures passed { IfOk result (λ n. self.new ≡ record self.old {
-            bytes = self.old.bytes ++ take n bytes.now;
-            calls = counted self.old.calls;
-            empties = empties_after self.old.empties n (length bytes.now)
+          held = self.old.held ++ take n bytes.now;
+          calls = counted self.old.calls;
+          empty_writes = empties_after self.old.empty_writes n (length bytes.now);
         }) }
     {
         if self.schedule.fails() {
@@ -116,7 +116,7 @@ impl Sink for MemSink {
         }
         let count = self.keep(bytes);
         if count == 0 && !bytes.is_empty() {
-            self.empties = self.empties.saturating_add(1);
+            self.empty_writes = self.empty_writes.saturating_add(1);
         }
         Ok(count)
     }

@@ -26,11 +26,11 @@ impl Model for MemSource {
     ghost Value = { SourceState };
 
     ghost view = { λ s. record {
-        bytes = drop s.given s.bytes.items;
-        most = s.most;
-        failing = s.schedule.failing.items;
-        calls = s.schedule.calls;
-        failures = s.schedule.failures
+      left = drop s.given s.bytes.items;
+      most = s.most;
+      failing = s.schedule.failing.items;
+      calls = s.schedule.calls;
+      faults = s.schedule.faults;
     } };
 
     ghost invariant = { λ s. (s.given ≤ vec_len s.bytes) × (0 < s.most) };
@@ -41,11 +41,11 @@ impl MemSource {
     pub fn new(bytes: Vec<u8>, most: usize, failing: Vec<u64>) -> MemSource
         requires { 1 ≤ most }
         ensures { result ≡ record {
-            bytes = bytes.items;
-            most = most;
-            failing = failing.items;
-            calls = 0;
-            failures = 0
+          left = bytes.items;
+          most = most;
+          failing = failing.items;
+          calls = 0;
+          faults = 0;
         } }
     {
         MemSource {
@@ -58,8 +58,8 @@ impl MemSource {
 
     fn give(&mut self, buf: &mut [u8]) -> usize
         ensures count { result ≡ given_count self.old (length buf.old) }
-        ensures given { buf.new ≡ take result self.old.bytes ++ drop result buf.old }
-        ensures rest { self.new ≡ record self.old { bytes = drop result self.old.bytes } }
+        ensures given { buf.new ≡ take result self.old.left ++ drop result buf.old }
+        ensures rest { self.new ≡ record self.old { left = drop result self.old.left } }
     {
         let rest = &self.bytes[self.given..];
         let count = buf.len().min(rest.len()).min(self.most);
@@ -70,29 +70,29 @@ impl MemSource {
 }
 
 impl Source for MemSource {
-    ghost left = { λ s. Some s.bytes };
+    ghost left = { λ s. Some s.left };
 
-    ghost faults = { λ s. s.failures };
+    ghost faults = { λ s. s.faults };
 
     fn read(&mut self, buf: &mut [u8]) -> Result<usize, Failed>
         ensures bound { ReadsAtMost result buf.new }
-        ensures bytes { ReadConsumes (Some self.old.bytes) (Some self.new.bytes) result buf.new }
-        ensures cause { HasCause self.old.failures self.new.failures result }
+        ensures bytes { ReadConsumes (Some self.old.left) (Some self.new.left) result buf.new }
+        ensures cause { HasCause self.old.faults self.new.faults result }
 
         // Exactly the listed calls fail, and these are counted.
         ensures fails { IsErr result ↔ IsListed self.old.failing self.old.calls }
         ensures failed { OnErr result (self.new ≡ record self.old {
-            calls = counted self.old.calls;
-            failures = self.old.failures + 1
+          calls = counted self.old.calls;
+          faults = self.old.faults + 1;
         }) }
         ensures untouched { OnErr result (buf.new ≡ buf.old) }
 
         // The others give as many bytes as they can.
         ensures count { IfOk result (λ n. n ≡ given_count self.old (length buf.old)) }
-        ensures given { IfOk result (λ n. buf.new ≡ take n self.old.bytes ++ drop n buf.old) }
+        ensures given { IfOk result (λ n. buf.new ≡ take n self.old.left ++ drop n buf.old) }
         ensures passed { IfOk result (λ n. self.new ≡ record self.old {
-            bytes = drop n self.old.bytes;
-            calls = counted self.old.calls
+          left = drop n self.old.left;
+          calls = counted self.old.calls;
         }) }
     {
         if self.schedule.fails() {

@@ -8,20 +8,20 @@ ghost use Rattle.text_io.specs.Memory.{counted, IsListed};
 pub(crate) struct Schedule {
     pub(crate) failing: Vec<u64>,
     pub(crate) calls: u64,
-    pub(crate) failures: u64,
-    ghost counted: { failures ≤ calls },
+    pub(crate) faults: u64,
+    ghost counted: { faults ≤ calls },
 }
 
 impl Schedule {
     pub(crate) fn new(failing: Vec<u64>) -> Schedule
         ensures failing { result.failing.items ≡ failing.items }
         ensures calls { result.calls ≡ 0 }
-        ensures failures { result.failures ≡ 0 }
+        ensures faults { result.faults ≡ 0 }
     {
         Schedule {
             failing,
             calls: 0,
-            failures: 0,
+            faults: 0,
         }
     }
 
@@ -29,8 +29,8 @@ impl Schedule {
     pub(crate) fn fails(&mut self) -> bool
         ensures listed { IsTrue result ↔ IsListed self.old.failing.items self.old.calls }
         ensures calls { self.new.calls ≡ counted self.old.calls }
-        ensures failed { OnTrue result (self.new.failures ≡ self.old.failures + 1) }
-        ensures passed { OnFalse result (self.new.failures ≡ self.old.failures) }
+        ensures failed { OnTrue result (self.new.faults ≡ self.old.faults + 1) }
+        ensures passed { OnFalse result (self.new.faults ≡ self.old.faults) }
         ensures failing { self.new.failing.items ≡ self.old.failing.items }
     {
         // A call after the last number has none, and does not fail.
@@ -39,7 +39,7 @@ impl Schedule {
         }
         self.calls += 1;
         if self.failing.contains(&self.calls) {
-            self.failures += 1;
+            self.faults += 1;
             return true;
         }
         false

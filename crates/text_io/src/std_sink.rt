@@ -1,9 +1,10 @@
 //! A sink over a writer of std.
-ghost use Rattle.std.specs.Prelude.{◌≡◌, ◌+◌, ◌-◌, ◌^◌, ℕ, length, None, Ok, MatchResult};
+ghost use Rattle.std.specs.Prelude.{◌≡◌, ◌+◌, ◌-◌, ◌^◌, ◌<◌, ℕ, length, None, Ok, IfOk, OnOk, OnErr};
 ghost use Rattle.std.specs.Io.{WritesAtMost};
 ghost use Rattle.std.specs.Io.KnownBytes.{WriteAppends};
 ghost use Rattle.text_io.specs.Causes.{HasCause, HasEmptyCause};
 ghost use Rattle.text_io.specs.Memory.{empties_after};
+ghost use Rattle.text_io.specs.Std.{output_of, failed_writes, empty_writes_of};
 
 use crate::fault::Failed;
 use crate::sink::Sink;
@@ -14,28 +15,31 @@ use std::io::Write;
 pub struct StdSink<O> {
     output: O,
     failures: u64,
-    empties: u64,
+    empty_writes: u64,
 }
 
 impl<O: Write> StdSink<O> {
     /// A sink over this writer, with no failures and no empty writes yet.
     pub fn new(output: O) -> StdSink<O>
-        ensures faults { ⟦<StdSink<O> as Sink>⟧.faults result ≡ 0 }
-        ensures empty_writes { ⟦<StdSink<O> as Sink>⟧.empty_writes result ≡ 0 }
+        ensures output { output_of result ≡ output }
+        ensures faults { failed_writes result ≡ 0 }
+        ensures empty_writes { empty_writes_of result ≡ 0 }
     {
         StdSink {
             output,
             failures: 0,
-            empties: 0,
+            empty_writes: 0,
         }
     }
 
-    fn write_on(&mut self, bytes: &[u8]) -> Result<usize, Failed>
+    fn pass_on(&mut self, bytes: &[u8]) -> Result<usize, Failed>
         ensures bound { WritesAtMost result bytes.now }
-        ensures counted { MatchResult result (λ _. self.new.failures ≡ self.old.failures)
-            (λ _. self.new.failures ≡ self.old.failures + 1) }
-        ensures full { self.old.failures ≡ 2 ^ 64 - 1 → result ≡ Ok 0 }
-        ensures empties { self.new.empties ≡ self.old.empties }
+        ensures passed { failed_writes self.old < 2 ^ 64 - 1 →
+            WriteAppends (O.contents (output_of self.old)) (O.contents (output_of self.new)) result bytes.now }
+        ensures counted { OnErr result (failed_writes self.new ≡ failed_writes self.old + 1) }
+        ensures uncounted { OnOk result (failed_writes self.new ≡ failed_writes self.old) }
+        ensures full { failed_writes self.old ≡ 2 ^ 64 - 1 → (result ≡ Ok 0) × (output_of self.new ≡ output_of self.old) }
+        ensures empty_writes { empty_writes_of self.new ≡ empty_writes_of self.old }
     {
         if self.failures == u64::MAX {
             return Ok(0);
@@ -53,30 +57,33 @@ impl<O: Write> StdSink<O> {
 impl<O: Write> Sink for StdSink<O> {
     ghost held = { λ _. None };
 
-    ghost faults = { λ s. s.failures };
+    ghost faults = { failed_writes };
 
-    ghost empty_writes = { λ s. s.empties };
+    ghost empty_writes = { empty_writes_of };
 
-    /// At 2^64 - 1 failures it writes nothing more, and takes no byte.
+    /// Writes to the writer. At 2^64 - 1 failures it writes nothing more, and takes no byte.
     fn write(&mut self, bytes: &[u8]) -> Result<usize, Failed>
         ensures bound { WritesAtMost result bytes.now }
         ensures bytes { WriteAppends None None result bytes.now }
-        ensures cause { HasCause self.old.failures self.new.failures result }
-        ensures empty { HasEmptyCause self.old.empties self.new.empties result bytes.now }
+        ensures cause { HasCause (failed_writes self.old) (failed_writes self.new) result }
+        ensures empty { HasEmptyCause (empty_writes_of self.old) (empty_writes_of self.new) result bytes.now }
+
+        // What comes is passed on.
+        ensures passed { failed_writes self.old < 2 ^ 64 - 1 →
+            WriteAppends (O.contents (output_of self.old)) (O.contents (output_of self.new)) result bytes.now }
 
         // Each failure and each empty write is counted, and nothing else is.
-        ensures counted { MatchResult result (λ _. self.new.failures ≡ self.old.failures)
-            (λ _. self.new.failures ≡ self.old.failures + 1) }
-        ensures empties { MatchResult result
-            (λ n. self.new.empties ≡ empties_after self.old.empties n (length bytes.now))
-            (λ _. self.new.empties ≡ self.old.empties) }
-        ensures full { self.old.failures ≡ 2 ^ 64 - 1 → result ≡ Ok 0 }
+        ensures counted { OnErr result ((failed_writes self.new ≡ failed_writes self.old + 1)
+            × (empty_writes_of self.new ≡ empty_writes_of self.old)) }
+        ensures uncounted { IfOk result (λ n. (failed_writes self.new ≡ failed_writes self.old)
+            × (empty_writes_of self.new ≡ empties_after (empty_writes_of self.old) n (length bytes.now))) }
+        ensures full { failed_writes self.old ≡ 2 ^ 64 - 1 → (result ≡ Ok 0) × (output_of self.new ≡ output_of self.old) }
     {
-        let Ok(count) = self.write_on(bytes) else {
+        let Ok(count) = self.pass_on(bytes) else {
             return Err(Failed);
         };
         if count == 0 && !bytes.is_empty() {
-            self.empties = self.empties.saturating_add(1);
+            self.empty_writes = self.empty_writes.saturating_add(1);
         }
         Ok(count)
     }

@@ -1,4 +1,4 @@
-use Rattle.std.proofs.Common.{◌≡◌, ℕ, ◌++◌, rules, arith}
+use Rattle.std.proofs.Common.{◌++◌, arith}
 use Rattle.text_io.specs.Buffer.{pending_of}
 use Rattle.text_io.proofs.FillLemmas.{Filled-start, Filled-more, Filled-limit, Fills-trans}
 use Rattle.text_io.proofs.cutter.fill_line.Goals as goal

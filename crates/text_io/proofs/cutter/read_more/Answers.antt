@@ -1,4 +1,4 @@
-use Rattle.std.proofs.Common.{◌≡◌, ℕ, ◌+◌, ◌<◌, ◌≤◌, List, [], ◌++◌, length, take, drop, sym, ap, ◌∙◌, append-nil, subst, arith, length-append}
+use Rattle.std.proofs.Common.{◌≡◌, ℕ, [], length, take, drop, sym, ap, ◌∙◌, append-nil, subst, arith, length-append}
 use Rattle.std.proofs.KnownBytes.{Consumes-nil, Consumes-kept}
 use Rattle.text_io.specs.Lines.{HasNoFeed}
 use Rattle.text_io.specs.Buffer.{pending_of}
@@ -52,6 +52,6 @@ returns-in-Err-clause-given g c =
     let err = c.in-Err.ensures.err in (
       [],
       Fills-read _ kept _ [] _ _ _ _ trim.0 c.requires.clear trim.1 trim.2 (err.0 ∙ sym (append-nil kept)) (omega (arith, err.1))
-      (Consumes-kept _ _ _ [] (Consumes-nil _) err.2),
+          (Consumes-kept _ _ _ [] (Consumes-nil _) err.2),
       tt,
     )

@@ -1,4 +1,4 @@
-use Rattle.std.proofs.Common.{ℕ, ◌-◌, ◌≤◌, length, take}
+use Rattle.std.proofs.Common.{◌-◌, ◌≤◌, length, take}
 use Rattle.std.specs.Io.KnownBytes.{Appends}
 use Rattle.text_io.proofs.pieces.put_all.Given as goal
 
@@ -7,7 +7,7 @@ invariant-writes g l = record {
   within : l.done ≤ length l.bytes;
   held : Appends (g.K.Sink.held l.initial.sink) (g.K.Sink.held l.sink) (take l.done l.bytes);
   faults : g.K.Sink.faults l.initial.sink ≤ g.K.Sink.faults l.sink;
-  empties : g.K.Sink.empty_writes l.initial.sink ≤ g.K.Sink.empty_writes l.sink
+  empties : g.K.Sink.empty_writes l.initial.sink ≤ g.K.Sink.empty_writes l.sink;
 }
 
 abbrev pub decreases-writes : goal.decreases-writes

@@ -1,4 +1,4 @@
-use Rattle.std.proofs.Common.{◌+◌, ◌-◌, ◌≤◌, length, sym, arith, take_all, lit<}
+use Rattle.std.proofs.Common.{◌+◌, sym, arith, take_all, lit<}
 use Rattle.std.proofs.lemmas.List.Edits.{length-between}
 use Rattle.text_io.proofs.RangeLemmas.{range_front}
 use Rattle.text_io.proofs.buffer.Buffer.trim.Goals as goal
