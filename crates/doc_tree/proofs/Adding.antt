@@ -1,20 +1,20 @@
 -- The nodes of a tree, as one is found and as one is added.
-use Rattle.std.proofs.Common.{◌≡◌, ℕ, ◌+◌, ◌-◌, ◌<◌, ◌≤◌, ◌||◌, ◌&&◌, Bool, true, false, not, cond, eqb, Option, Some, None, List, [], ◌∷◌, ◌++◌, map, length, take, drop, get_or, refl, sym, ap, ◌∙◌, subst, inl, inr, arith, length-append, append_assoc}
-use Rattle.std.specs.Prelude.{nat_lt, nat_eq, nat_le}
+use Rattle.std.proofs.Common.{◌≡◌, ℕ, ◌+◌, ◌-◌, ◌<◌, ◌≤◌, Bool, true, false, cond, eqb, Option, Some, None, List, [], ◌∷◌, ◌++◌, map, length, take, drop, get_or, refl, sym, ap, ◌∙◌, subst, arith, length-append, append_assoc}
+use Rattle.std.specs.Prelude.{nat_lt, nat_le}
 use Rattle.std.specs.List.{list_any, list_all, prefix_len, position, insert}
-use Rattle.std.proofs.lemmas.Bool.{cases_Bool, eqb-true, eq-eqb, ltb-true, ltb-false, and_parts, and_from, ne_eqb, or_from, or_left, or_right, or_parts, false≢true}
-use Rattle.std.proofs.lemmas.List.{map-append, take-append-drop, length-map, length-take, take-map, drop-map, length-drop, drop_at, get_or-map}
+use Rattle.std.proofs.lemmas.Bool.{eqb-true, eq-eqb, ltb-false, le-leb, and_parts, and_from, ne_eqb, or_from, or_left, or_right, false≢true}
+use Rattle.std.proofs.lemmas.List.{map-append, take-append-drop, length-map, take-map, drop-map, length-drop, drop_at, get_or-map}
 use Rattle.std.proofs.lemmas.List.Sums.{prefix_len-le-length}
 use Rattle.std.proofs.lemmas.List.Folds.{list_any-append}
 use Rattle.doc_tree.specs.declared.node.Node.{Node}
-use Rattle.doc_tree.specs.declared.limits.TheConstants.{MAX_ELEMENTS, MAX_STYLE_BYTES}
-use Rattle.doc_tree.specs.Element.{Element, Document, is_in, chain, reversed_onto, lineage, depth_of}
-use Rattle.doc_tree.specs.Shape.{IsGrown, IsTree, IsWithinLimits}
-use Rattle.doc_tree.specs.Change.{EndsSubtree, IsAdded, IsLastPlace, new_element}
+use Rattle.doc_tree.specs.declared.limits.TheConstants.{MAX_DEPTH, MAX_ELEMENTS, MAX_STYLE_BYTES}
+use Rattle.doc_tree.specs.Element.{Element, is_in, chain, reversed_onto, depth_of}
+use Rattle.doc_tree.specs.Shape.{IsGrown}
+use Rattle.doc_tree.specs.Change.{EndsSubtree, IsAdded, new_element}
 use Rattle.doc_tree.specs.Fault.{child_depth, fault_of_add}
 use Rattle.doc_tree.specs.Nodes.{depths_from, depth_at, element_of, document_of, IsSound, IsPlaced}
 use Rattle.doc_tree.proofs.Lists.{position-map, prefix_len-map, splits_at_position, same_parts, take_past, drop_past, get_or_at}
-use Rattle.doc_tree.proofs.Places.{depth-of, depths-append, length-depths_from, ends_where_higher, inserted, IsInserted}
+use Rattle.doc_tree.proofs.Places.{bounded_depths, depth-of, depths-append, length-depths_from, ends_where_higher, inserted}
 
 -- what is known of node p, found at `at`: its depth, and that its subtree ends where nodes no longer lie deeper
 pub record IsFound (nodes : List Node) (p at : ℕ) : Type 0 where
@@ -105,20 +105,22 @@ all_inserted p (b ∷ before) after x all own =
     and_from _ _ parts.0 (all_inserted p before after x parts.1 own)
 
 -- the truths under which an add has no fault
-pub record IsFaultless (es : List Element) (used : List ℕ) (n : ℕ) : Type 0 where
+pub record IsFaultless (es : List Element) (used : List ℕ) (n : ℕ) (parent : Option ℕ) : Type 0 where
   pub unused : list_any (eqb n) used ≡ false
   pub room : length es + 1 ≤ MAX_ELEMENTS
+  pub shallow : child_depth parent es ≤ MAX_DEPTH
 
 cond_none : {T : Type 0} (b : Bool) (x : T) (rest : Option T) → cond b (Some x) rest ≡ None → (b ≡ false) × (rest ≡ None)
 cond_none true x rest e = cc
 cond_none false x rest e = (refl, e)
 
-pub faultless : (es : List Element) (used : List ℕ) (n : ℕ) (parent : Option ℕ) → fault_of_add (record { elements = es; used = used }) n parent ≡ None → IsFaultless es used n
+pub faultless : (es : List Element) (used : List ℕ) (n : ℕ) (parent : Option ℕ) → fault_of_add (record { elements = es; used = used }) n parent ≡ None → IsFaultless es used n parent
 faultless es used n parent none =
     let known = cond_none _ _ _ none in
     let unused = cond_none _ _ _ known.1 in
     let room = cond_none _ _ _ unused.1 in
-    record { unused = unused.0; room = ltb-false _ _ room.0 }
+    let shallow = cond_none _ _ _ room.1 in
+    record { unused = unused.0; room = ltb-false _ _ room.0; shallow = ltb-false _ _ shallow.0 }
 
 -- the tree of a sound one into which a last child was put
 pub added_sound : (nodes : List Node) (used : List ℕ) (x : Node) (i : ℕ) → IsSound nodes used → fault_of_add (document_of nodes used) x.number x.parent ≡ None → IsPlaced nodes x.parent i x.depth → (element_of x).style ≡ []
@@ -139,15 +141,21 @@ added_sound nodes used x i sound none placed plain =
     let fronts = parts.fronts in
     let backs = parts.backs in
     let same : map depth_at (take i nodes) ++ x.depth ∷ map depth_at (drop i nodes) ≡ depths_from [] before ++ child_depth x.parent (before ++ after) ∷ depths_from (reversed_onto before []) after = cc in
+    let new_order : IsGrown [] (map element_of (insert nodes i x)) = subst (λ (es : List Element). IsGrown [] es) (sym ns) put.grown in
+    let bounded = list_all (λ (d : ℕ). nat_le d MAX_DEPTH) in
+    let shallow : bounded (depths_from [] before ++ depths_from (reversed_onto before []) after) ≡ true =
+    ap bounded (sym (ap (λ (es : List Element). depths_from [] es) es ∙ depths-append [] before after)) ∙ (bounded_depths MAX_DEPTH _ sound.tree.order ∙ sound.limits.depths) in
+    let own_shallow = le-leb _ _ (subst (λ (es : List Element). child_depth x.parent es ≤ MAX_DEPTH) es fine.shallow) in
     record {
       tree = record {
-        order = subst (λ (es : List Element). IsGrown [] es) (sym ns) put.grown;
+        order = new_order;
         numbers = subst (λ (es : List Element). list_all (λ e. list_any (eqb e.number) (used ++ x.number ∷ [])) es ≡ true) (sym ns)
             (all_inserted (λ (e : Element). list_any (eqb e.number) (used ++ x.number ∷ [])) before after (element_of x) (subst (λ (es : List Element). list_all (λ e. list_any (eqb e.number) (used ++ x.number ∷ [])) es ≡ true) es (still_used x.number used _ sound.tree.numbers))
             (list_any-append (eqb x.number) used (x.number ∷ []) ∙ or_right _ _ (or_left _ _ (eq-eqb x.number x.number refl))));
       };
       limits = record {
         elements = omega (arith, fine.room, ap length es, ap length ns, length-append before after, length-append before (element_of x ∷ after));
+        depths = sym (bounded_depths MAX_DEPTH _ new_order) ∙ (ap bounded (ap (λ (es : List Element). depths_from [] es) ns ∙ put.depths) ∙ all_inserted (λ (d : ℕ). nat_le d MAX_DEPTH) (depths_from [] before) (depths_from (reversed_onto before []) after) (child_depth x.parent (before ++ after)) shallow own_shallow);
         styles = subst (λ (es : List Element). list_all (λ e. nat_le (length e.style) MAX_STYLE_BYTES) es ≡ true) (sym ns)
             (all_inserted (λ (e : Element). nat_le (length e.style) MAX_STYLE_BYTES) before after (element_of x) (subst (λ (es : List Element). list_all (λ e. nat_le (length e.style) MAX_STYLE_BYTES) es ≡ true) es sound.limits.styles) (rw plain refl));
       };

@@ -1,14 +1,13 @@
 -- Elements in tree order: how a list of them splits, and where subtrees lie in it.
-use Rattle.std.proofs.Common.{◌≡◌, ℕ, ◌+◌, ◌<◌, ◌≤◌, ◌⊎◌, ◌||◌, Bool, true, false, cond, eqb, Option, Some, None, List, [], ◌∷◌, ◌++◌, length, take, drop, zero, suc, refl, sym, ap, ◌∙◌, subst, inl, inr, arith, length-append}
+use Rattle.std.proofs.Common.{◌≡◌, ℕ, ◌<◌, ◌≤◌, true, false, eqb, Option, Some, None, List, [], ◌∷◌, ◌++◌, length, take, drop, suc, refl, sym, ap, ◌∙◌, subst, inl, inr, arith}
 use Rattle.std.specs.Option.{option_map_or}
 use Rattle.std.specs.Prelude.{nat_lt}
 use Rattle.std.specs.List.{list_any, prefix_len}
 use Rattle.doc_tree.specs.Nodes.{depths_from}
-use Rattle.std.proofs.lemmas.Bool.{cases_Bool, eqb-true, ltb-true, ltb-false, eq-eqb, ne_eqb, or_cases, or_parts, or_from, or_left, or_right, false_from_ne_true, false≢true}
-use Rattle.std.proofs.lemmas.List.Folds.{list_any-append}
-use Rattle.doc_tree.specs.Element.{Element, Document, is_in, chain, reversed_onto, lineage, is_within}
+use Rattle.std.proofs.lemmas.Bool.{cases_Bool, ltb-true, ltb-false, eq-eqb, ne_eqb, or_cases, or_parts, or_from, or_left, or_right, false_from_ne_true, false≢true}
+use Rattle.doc_tree.specs.Element.{Element, is_in, chain, reversed_onto}
 use Rattle.doc_tree.specs.Shape.{Follows, IsNext, IsGrown}
-use Rattle.doc_tree.proofs.Chains.{Has, Differ, Ends, chain-here, chain-past, chain-past_all, chain-has_self, is_in-chain, chain-kept, chain-ends, chain-linear, chain-shorter, has-end}
+use Rattle.doc_tree.proofs.Chains.{Has, Differ, chain-here, chain-past_all, is_in-chain, chain-kept, chain-ends, chain-linear, chain-shorter, has-end}
 
 pub onto-append : (xs ys r : List Element) → reversed_onto (xs ++ ys) r ≡ reversed_onto ys (reversed_onto xs r)
 onto-append [] ys r = refl

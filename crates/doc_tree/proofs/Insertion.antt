@@ -1,15 +1,12 @@
 -- A tree stays one, and keeps its depths, as a last child is put into it.
-use Rattle.std.proofs.Common.{◌≡◌, ℕ, ◌+◌, ◌<◌, ◌≤◌, ◌⊎◌, ◌||◌, Bool, true, false, cond, eqb, Option, Some, None, List, [], ◌∷◌, ◌++◌, length, refl, sym, ap, ◌∙◌, subst, inl, inr, arith, length-append}
+use Rattle.std.proofs.Common.{◌≡◌, ℕ, ◌||◌, Bool, true, false, eqb, Option, Some, None, List, [], ◌∷◌, length, refl, sym, ap, ◌∙◌, subst, inl, inr, arith}
 use Rattle.std.specs.Option.{option_map_or}
-use Rattle.std.specs.Prelude.{IsSomeAnd, IsTrue}
 use Rattle.std.specs.List.{list_any}
-use Rattle.std.proofs.lemmas.Bool.{cases_Bool, cases_lt, eqb-true, eq-eqb, ne_eqb, or_cases, or_parts, or_from, or_left, or_right, false_from_ne_true, false≢true}
-use Rattle.std.proofs.lemmas.List.Folds.{list_any-append}
+use Rattle.std.proofs.lemmas.Bool.{cases_Bool, cases_lt, eq-eqb, ne_eqb, or_parts, or_from, or_right, false≢true}
 use Rattle.doc_tree.specs.Element.{Element, is_in, chain, reversed_onto}
-use Rattle.doc_tree.specs.Shape.{Follows, IsNext, IsGrown}
-use Rattle.doc_tree.specs.Change.{EndsSubtree, IsLastPlace}
+use Rattle.doc_tree.specs.Shape.{Follows, IsGrown}
 use Rattle.doc_tree.specs.Nodes.{depths_from}
-use Rattle.doc_tree.proofs.Chains.{Has, Differ, chain-here, chain-past, chain-has_self, is_in-chain, chain-linear}
+use Rattle.doc_tree.proofs.Chains.{Has, Differ, chain-here, chain-past, is_in-chain, chain-linear}
 use Rattle.doc_tree.proofs.Growth.{parent_there, chain-child, chain-stays}
 
 -- the elements after have those before, with the same chains, but for number n

@@ -1,19 +1,19 @@
 -- The place of a last child: where depths show it, and what a child there makes of the tree.
-use Rattle.std.proofs.Common.{◌≡◌, ℕ, ◌+◌, ◌<◌, ◌≤◌, ◌||◌, Bool, true, false, cond, eqb, Option, Some, None, List, [], ◌∷◌, ◌++◌, length, take, drop, suc, refl, sym, ap, ◌∙◌, subst, arith, length-append, append_assoc}
-use Rattle.std.specs.Prelude.{nat_lt}
+use Rattle.std.proofs.Common.{◌≡◌, ℕ, false, eqb, Option, Some, None, List, [], ◌∷◌, ◌++◌, length, take, drop, suc, refl, sym, ap, ◌∙◌, subst, arith, append_assoc}
+use Rattle.std.specs.Prelude.{nat_le, nat_lt}
 use Rattle.std.specs.Option.{option_map_or}
-use Rattle.std.specs.List.{list_any, prefix_len}
-use Rattle.std.proofs.lemmas.Bool.{eqb-true, eq-eqb, or_from, or_parts, false≢true}
+use Rattle.std.specs.List.{list_all, prefix_len}
+use Rattle.std.proofs.lemmas.Bool.{eq-eqb, or_parts}
 use Rattle.std.proofs.lemmas.List.{take-append-drop}
 use Rattle.std.proofs.lemmas.List.Folds.{list_any-append}
-use Rattle.doc_tree.specs.Element.{Element, is_in, chain, reversed_onto, lineage, depth_of, is_within}
-use Rattle.doc_tree.specs.Shape.{IsNext, IsGrown}
+use Rattle.doc_tree.specs.Element.{Element, is_in, chain, reversed_onto, lineage, depth_of}
+use Rattle.doc_tree.specs.Shape.{IsGrown}
 use Rattle.doc_tree.specs.Change.{EndsSubtree, IsLastPlace}
 use Rattle.doc_tree.specs.Fault.{child_depth}
 use Rattle.doc_tree.specs.Nodes.{depths_from}
 use Rattle.doc_tree.proofs.Chains.{Has, Differ, chain-here, chain-has_self, chain-past_all, is_in-chain}
-use Rattle.doc_tree.proofs.Growth.{onto-append, is_in-onto_none, grown-front, grown-back, grown-append, differ-onto, later_differ, chain-child, chain-stays, there_itself, IsCut, cut_where_higher, NoneWithin}
-use Rattle.doc_tree.proofs.Insertion.{put_last, IsPut}
+use Rattle.doc_tree.proofs.Growth.{onto-append, is_in-onto_none, grown-front, grown-back, grown-append, differ-onto, later_differ, chain-child, chain-stays, there_itself, cut_where_higher, NoneWithin}
+use Rattle.doc_tree.proofs.Insertion.{put_last}
 
 pub depths-append : (r xs ys : List Element) → depths_from r (xs ++ ys) ≡ depths_from r xs ++ depths_from (reversed_onto xs r) ys
 depths-append r [] ys = refl
@@ -22,6 +22,17 @@ depths-append r (x ∷ xs) ys = ap (λ (ds : List ℕ). length (chain (x ∷ r) 
 pub length-depths_from : (r es : List Element) → length (depths_from r es) ≡ length es
 length-depths_from r [] = refl
 length-depths_from r (e ∷ es) = ap (λ (n : ℕ). suc n) (length-depths_from (e ∷ r) es)
+
+-- a bound on the depths, told over the whole list and told as the list grows
+bounded_from : (most : ℕ) (r es : List Element) → IsGrown r es → list_all (λ d. nat_le d most) (depths_from r es) ≡ list_all (λ e. nat_le (length (chain (reversed_onto es r) e.number)) most) es
+bounded_from most r [] g = refl
+bounded_from most r (e ∷ es) g =
+    let here = ap (λ (c : List ℕ). nat_le (length c) most) (chain-stays e es r g.1) in
+    let rest = bounded_from most (e ∷ r) es g.1 in
+    cc
+
+pub bounded_depths : (most : ℕ) (es : List Element) → IsGrown [] es → list_all (λ d. nat_le d most) (depths_from [] es) ≡ list_all (λ e. nat_le (depth_of es e.number) most) es
+bounded_depths most es g = bounded_from most [] es g
 
 -- an element deeper in the list keeps its depth as the rest comes
 pub depth-of : (front back : List Element) (x : Element) (p : ℕ) → IsGrown [] (front ++ x ∷ back) → x.number ≡ p → depth_of (front ++ x ∷ back) p ≡ length (chain (x ∷ reversed_onto front []) p)

@@ -1,21 +1,22 @@
 -- A change of elements that keeps their numbers and parents keeps their tree.
-use Rattle.std.proofs.Common.{Global, String, ◌≡◌, ℕ, ◌+◌, ◌<◌, ◌≤◌, ◌⊎◌, ◌||◌, ◌&&◌, Bool, true, false, cond, eqb, Option, Some, None, Result, Ok, Err, OnOk, OnErr, List, [], ◌∷◌, ◌++◌, map, length, get_or, set, refl, sym, ap, ◌∙◌, subst, inl, inr, arith}
+use Rattle.std.proofs.Common.{Global, String, ◌≡◌, ℕ, ◌<◌, ◌≤◌, ◌&&◌, true, false, eqb, Option, Some, None, Result, Ok, Err, OnOk, OnErr, List, [], ◌∷◌, ◌++◌, map, length, get_or, set, refl, sym, ap, ◌∙◌, subst, inl, inr, arith}
 use Rattle.std.specs.Prelude.{nat_le}
 use Rattle.std.specs.Option.{option_map, option_map_or}
-use Rattle.std.specs.List.{list_any, list_all, find, position}
+use Rattle.std.specs.List.{list_any, list_all, position}
 use Rattle.std.specs.String.{string_bytes}
-use Rattle.std.proofs.lemmas.Bool.{cases_Bool, eqb-true, eq-eqb, le-leb, leb-true, and_parts, and_from, or_parts, or_from, or_left}
+use Rattle.std.proofs.lemmas.Bool.{cases_Bool, le-leb, leb-true, and_parts, and_from, or_parts, or_left}
 use Rattle.std.proofs.lemmas.List.{map-append, map-set, length-map, get_or-map, set-get_or, set_at}
 use Rattle.std.proofs.lemmas.List.Folds.{list_all-append}
 use Rattle.doc_tree.specs.declared.node.Node.{Node}
-use Rattle.doc_tree.specs.declared.limits.TheConstants.{MAX_STYLE_BYTES}
+use Rattle.doc_tree.specs.declared.limits.TheConstants.{MAX_DEPTH, MAX_STYLE_BYTES}
 use Rattle.doc_tree.specs.Element.{Element, Document, is_in, chain, reversed_onto, style_of}
-use Rattle.doc_tree.specs.Shape.{Follows, IsNext, IsGrown, IsTree, IsWithinLimits}
-use Rattle.doc_tree.specs.Change.{restyled, with_style}
+use Rattle.doc_tree.specs.Shape.{Follows, IsGrown}
+use Rattle.doc_tree.specs.Change.{restyled}
 use Rattle.doc_tree.specs.Nodes.{depths_from, depth_at, element_of, document_of, IsSound}
 use Rattle.doc_tree.proofs.Chains.{Has, chain-here, chain-past}
-use Rattle.doc_tree.proofs.Growth.{grown-back, later_differ, there_itself}
-use Rattle.doc_tree.proofs.Lists.{list_any-map, position-map, get_or_at, SplitsAt, splits_at_position, find-split, find-none}
+use Rattle.doc_tree.proofs.Growth.{grown-back, later_differ}
+use Rattle.doc_tree.proofs.Places.{bounded_depths}
+use Rattle.doc_tree.proofs.Lists.{list_any-map, position-map, get_or_at, splits_at_position, find-split, find-none}
 
 -- the element keeps its number and its parent
 pub record KeepsPlace (old new : Element) : Type 0 where
@@ -143,13 +144,15 @@ restyled_sound nodes news used n text sound short elements depths =
     let es = map element_of nodes in
     let f = restyled n text in
     let keeps = restyled_keeps n text in
+    let new_order : IsGrown [] (map element_of news) = subst (λ (es : List Element). IsGrown [] es) (sym elements) (grown-changed f keeps [] es sound.tree.order) in
     record {
       tree = record {
-        order = subst (λ (es : List Element). IsGrown [] es) (sym elements) (grown-changed f keeps [] es sound.tree.order);
+        order = new_order;
         numbers = subst (λ (es : List Element). list_all (λ e. list_any (eqb e.number) used) es ≡ true) (sym elements) (used-changed f keeps used es ∙ sound.tree.numbers);
       };
       limits = record {
         elements = omega (arith, ap length elements, length-map es f, sound.limits.elements);
+        depths = sym (bounded_depths MAX_DEPTH _ new_order) ∙ (ap (list_all (λ (d : ℕ). nat_le d MAX_DEPTH)) (ap (λ (es : List Element). depths_from [] es) elements ∙ depths-changed f keeps [] es) ∙ (bounded_depths MAX_DEPTH es sound.tree.order ∙ sound.limits.depths));
         styles = subst (λ (es : List Element). list_all (λ e. nat_le (length e.style) MAX_STYLE_BYTES) es ≡ true) (sym elements) (styles_kept n text es short sound.limits.styles);
       };
       depths = depths ∙ (sound.depths ∙ sym (ap (λ (es : List Element). depths_from [] es) elements ∙ depths-changed f keeps [] es));

@@ -1,14 +1,13 @@
 -- What holds of the elements of a tree, wherever one of them stands, and of an add.
-use Rattle.std.proofs.Common.{◌≡◌, ℕ, ◌+◌, ◌<◌, ◌≤◌, ◌||◌, Bool, true, false, not, cond, eqb, Option, Some, None, List, [], ◌∷◌, ◌++◌, length, refl, sym, ap, ◌∙◌, subst, inl, inr, arith, length-append, append_assoc}
+use Rattle.std.proofs.Common.{◌≡◌, ℕ, ◌<◌, ◌≤◌, true, false, not, eqb, Option, Some, None, List, [], ◌∷◌, ◌++◌, length, refl, sym, ap, ◌∙◌, subst, inl, inr, arith, length-append, append_assoc}
 use Rattle.std.specs.Option.{option_map_or}
 use Rattle.std.specs.List.{list_any, filter, position}
-use Rattle.std.proofs.lemmas.Bool.{cases_Bool, cases_order, eqb-true, eq-eqb, ne_eqb, or_from, or_left, or_right, or_parts, false≢true}
-use Rattle.std.proofs.lemmas.List.{append-nil}
+use Rattle.std.proofs.lemmas.Bool.{cases_Bool, cases_order, eq-eqb, or_from, or_left, or_right, or_parts, false≢true}
 use Rattle.std.proofs.lemmas.List.Folds.{list_any-append}
 use Rattle.doc_tree.specs.Element.{Element, Document, is_in, is_used, is_within, chain, reversed_onto, lineage, position_of}
 use Rattle.doc_tree.specs.Shape.{Follows, IsNext, IsGrown}
 use Rattle.doc_tree.specs.Change.{EndsSubtree, IsAdded, IsLastPlace}
-use Rattle.doc_tree.proofs.Chains.{Has, Differ, chain-here, chain-past_all, is_in-chain}
+use Rattle.doc_tree.proofs.Chains.{Differ, chain-here, chain-past_all, is_in-chain}
 use Rattle.doc_tree.proofs.Growth.{onto-append, is_in-onto_kept, is_in-onto_front, is_in-onto_there, grown-front, grown-back, differ-onto, later_differ, chain-stays, there_itself, parent_there, outside_rest, NoneWithin}
 use Rattle.doc_tree.proofs.Lists.{same_parts, position-split}
 

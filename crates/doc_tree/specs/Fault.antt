@@ -1,5 +1,5 @@
 -- Which fault an edit has: the first of the list.
-use Rattle.std.specs.Prelude.{ℕ, ◌+◌, nat_lt, nat_le, Bool, true, not, ◌&&◌, List, [], ◌∷◌, length, is_none, if◌then◌else◌, MatchOption, IsOkUnless, ◌≡◌, Option, Some, None, Result, Err}
+use Rattle.std.specs.Prelude.{ℕ, ◌+◌, nat_lt, Bool, true, not, ◌&&◌, List, length, is_none, if◌then◌else◌, MatchOption, IsOkUnless, ◌≡◌, Option, Some, None, Result, Err}
 use Rattle.std.specs.Option.{option_map_or}
 use Rattle.doc_tree.specs.declared.limits.TheConstants.{MAX_ELEMENTS, MAX_DEPTH}
 use Rattle.doc_tree.specs.declared.fault.TreeFault.{TreeFault}

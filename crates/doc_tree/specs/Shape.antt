@@ -1,8 +1,8 @@
 -- What makes a list of elements a tree in tree order.
-use Rattle.std.specs.Prelude.{◌≡◌, ℕ, ◌≤◌, nat_eq, nat_le, Bool, true, false, List, [], ◌∷◌, length, IsTrue, IsSomeAnd, ⊤, Option, None}
+use Rattle.std.specs.Prelude.{◌≡◌, ℕ, ◌≤◌, nat_eq, nat_le, false, List, [], ◌∷◌, length, IsTrue, IsSomeAnd, ⊤, Option, None}
 use Rattle.std.specs.List.{list_any, list_all}
-use Rattle.doc_tree.specs.declared.limits.TheConstants.{MAX_ELEMENTS, MAX_STYLE_BYTES}
-use Rattle.doc_tree.specs.Element.{Element, Document, is_in, is_used, chain}
+use Rattle.doc_tree.specs.declared.limits.TheConstants.{MAX_DEPTH, MAX_ELEMENTS, MAX_STYLE_BYTES}
+use Rattle.doc_tree.specs.Element.{Element, Document, is_in, is_used, chain, depth_of}
 
 -- behind `earlier`, the last first, may stand a child of the last of them or of one of its ancestors; the first element is the root
 abbrev pub Follows : List Element → Option ℕ → Type 0
@@ -24,7 +24,8 @@ pub record IsTree (d : Document) : Type 0 where
   pub order : IsGrown [] d.elements
   pub numbers : IsTrue (list_all (λ e. is_used e.number d) d.elements)
 
--- no document has more elements, and no element a longer style text
+-- no document has more elements, and no element lies deeper or has a longer style text
 pub record IsWithinLimits (d : Document) : Type 0 where
   pub elements : length d.elements ≤ MAX_ELEMENTS
+  pub depths : IsTrue (list_all (λ e. nat_le (depth_of d.elements e.number) MAX_DEPTH) d.elements)
   pub styles : IsTrue (list_all (λ e. nat_le (length e.style) MAX_STYLE_BYTES) d.elements)

@@ -44,8 +44,11 @@ pub fn add_node(
 ) -> Result<(), TreeFault>
     requires { IsSound nodes.old.items used.old.keys }
     ensures sound { IsSound nodes.new.items used.new.keys }
-    ensures fault { Answers (fault_of_add (document_of nodes.old.items used.old.keys) n parent) result }
-    ensures ok { OnOk result (IsAdded (document_of nodes.old.items used.old.keys) (document_of nodes.new.items used.new.keys) (new_element n parent tag.now)) }
+    ensures fault { let old = document_of nodes.old.items used.old.keys in
+        Answers (fault_of_add old n parent) result }
+    ensures ok { let old = document_of nodes.old.items used.old.keys in
+        let new = document_of nodes.new.items used.new.keys in
+        OnOk result (IsAdded old new (new_element n parent tag.now)) }
     ensures same_nodes { OnErr result (nodes.new.items ≡ nodes.old.items) }
     ensures same_used { OnErr result (used.new.keys ≡ used.old.keys) }
 {
@@ -71,7 +74,8 @@ pub fn restyle_node(
 ) -> Result<(), TreeFault>
     requires { IsGrown [] (map element_of nodes.old.items) }
     ensures fault { Answers (fault_of_change (map element_of nodes.old.items) n) result }
-    ensures ok { OnOk result (map element_of nodes.new.items ≡ map (restyled n text.now) (map element_of nodes.old.items)) }
+    ensures ok { let old = map element_of nodes.old.items in
+        OnOk result (map element_of nodes.new.items ≡ map (restyled n text.now) old) }
     ensures depths { map depth_at nodes.new.items ≡ map depth_at nodes.old.items }
     ensures err { OnErr result (nodes.new.items ≡ nodes.old.items) }
 {

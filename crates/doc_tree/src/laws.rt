@@ -1,46 +1,56 @@
 //! What holds of every document that is a tree, and of every add, by their definitions alone.
 
-ghost use Rattle.std.specs.Prelude.{◌≡◌, ℕ, ◌==◌, not, true, false, List, [], ◌∷◌, ◌++◌, length, IsTrue};
+ghost use Rattle.std.specs.Prelude.{◌≡◌, ℕ, ◌==◌, not, true, false, List, [], ◌∷◌, ◌++◌, length, IsTrue, ◌≢◌, ◌↔◌, Result, Option};
 ghost use Rattle.std.specs.List.{filter, list_any};
 ghost use Rattle.std.specs.Option.{option_map_or};
 ghost use Rattle.doc_tree.specs.Change.{IsAdded};
 ghost use Rattle.doc_tree.specs.Element.{Document, Element, is_in, is_used, is_within, lineage, position_of};
+ghost use Rattle.doc_tree.specs.Fault.{Answers};
 ghost use Rattle.doc_tree.specs.Shape.{IsTree};
+ghost use Rattle.doc_tree.specs.declared.fault.TreeFault.{TreeFault};
+ghost use Rattle.doc_tree.specs.declared.fault.TreeFault.TheVariants.{NoMemory};
 
 /// The lineage of an element is its number and then the lineage of its parent; the root's is its
 /// number alone.
 pub fn lineage_goes_by_parents()
-    ensures { (d : Document) (before after : List Element) (e : Element) → IsTree d → d.elements ≡ before ++ e ∷ after
+    ensures { (d : Document) (before after : List Element) (e : Element)
+        → IsTree d → d.elements ≡ before ++ e ∷ after
         → lineage d.elements e.number ≡ e.number ∷ option_map_or (lineage d.elements) e.parent [] }
 {}
 
 /// No two elements have one number.
 pub fn numbers_differ()
-    ensures { (d : Document) (before after : List Element) (e : Element) → IsTree d → d.elements ≡ before ++ e ∷ after
+    ensures { (d : Document) (before after : List Element) (e : Element)
+        → IsTree d → d.elements ≡ before ++ e ∷ after
         → is_in e.number (before ++ after) ≡ false }
 {}
 
 /// A parent stands before its child.
 pub fn parents_stand_before()
-    ensures { (d : Document) (before after : List Element) (e : Element) (p : ℕ) → IsTree d → d.elements ≡ before ++ e ∷ after
+    ensures { (d : Document) (before after : List Element) (e : Element) (p : ℕ)
+        → IsTree d → d.elements ≡ before ++ e ∷ after
         → e.parent ≡ Some p → IsTrue (is_in p before) }
 {}
 
 /// An element with no parent is the first: there is one root at most.
 pub fn one_root()
-    ensures { (d : Document) (before after : List Element) (e : Element) → IsTree d → d.elements ≡ before ++ e ∷ after
+    ensures { (d : Document) (before after : List Element) (e : Element)
+        → IsTree d → d.elements ≡ before ++ e ∷ after
         → e.parent ≡ None → before ≡ [] }
 {}
 
 /// A subtree stands together: behind the first element that has left it, none is in it.
 pub fn subtrees_stand_together()
-    ensures { (d : Document) (before after : List Element) (e : Element) (a : ℕ) → IsTree d → d.elements ≡ before ++ e ∷ after
-        → IsTrue (is_in a before) → is_within d.elements a e.number ≡ false → list_any (λ later. is_within d.elements a later.number) after ≡ false }
+    ensures { (d : Document) (before after : List Element) (e : Element) (a : ℕ)
+        → IsTree d → d.elements ≡ before ++ e ∷ after
+        → IsTrue (is_in a before) → is_within d.elements a e.number ≡ false
+        → list_any (λ later. is_within d.elements a later.number) after ≡ false }
 {}
 
 /// An add has one outcome.
 pub fn one_last_place()
-    ensures { (old first second : Document) (child : Element) → IsAdded old first child → IsAdded old second child → first ≡ second }
+    ensures { (old first second : Document) (child : Element)
+        → IsAdded old first child → IsAdded old second child → first ≡ second }
 {}
 
 /// The new element's position is the number of elements before its place.
@@ -57,5 +67,12 @@ pub fn others_keep_order()
 
 /// A used number stays used.
 pub fn used_stays_used()
-    ensures { (old new : Document) (child : Element) (n : ℕ) → IsAdded old new child → IsTrue (is_used n old) → IsTrue (is_used n new) }
+    ensures { (old new : Document) (child : Element) (n : ℕ)
+        → IsAdded old new child → IsTrue (is_used n old) → IsTrue (is_used n new) }
+{}
+
+/// An edit answers a fault other than `NoMemory` exactly where it has that fault.
+pub fn faults_are_exact()
+    ensures { (fault : Option TreeFault) (result : Result (Unit {0}) TreeFault) (e : TreeFault)
+        → Answers fault result → e ≢ NoMemory → ((fault ≡ Some e) ↔ (result ≡ Err e)) }
 {}

@@ -46,7 +46,8 @@ fn deeper_len(nodes: &[Node], depth: u32) -> usize
 fn place_behind(nodes: &[Node], at: usize, depth: u32) -> Place
     requires within { at < length nodes.now }
     requires shallow { depth < MAX_DEPTH }
-    ensures index { result.index ≡ at + 1 + prefix_len (λ x. nat_lt depth x.depth) (drop (at + 1) nodes.now) }
+    ensures index { let behind = drop (at + 1) nodes.now in
+        result.index ≡ at + 1 + prefix_len (λ x. nat_lt depth x.depth) behind }
     ensures depth { result.depth ≡ depth + 1 }
 {
     Place {
@@ -65,7 +66,8 @@ fn child_place(
 ) -> Result<Place, TreeFault>
     requires sound { IsSound nodes.now used.now.keys }
     requires found { position (λ e. e.number == p) (map element_of nodes.now) ≡ Some at }
-    ensures fault { result_err result ≡ fault_of_add (document_of nodes.now used.now.keys) n (Some p) }
+    ensures fault { let document = document_of nodes.now used.now.keys in
+        result_err result ≡ fault_of_add document n (Some p) }
     ensures place { IfOk result (λ place. IsPlaced nodes.now (Some p) place.index place.depth) }
 {
     if used.contains(&n) {
@@ -83,7 +85,8 @@ fn child_place(
 
 /// The place of a new root `n`, or the fault of adding it.
 fn root_place(nodes: &[Node], used: &IndexSet<u32>, n: u32) -> Result<Place, TreeFault>
-    ensures fault { result_err result ≡ fault_of_add (document_of nodes.now used.now.keys) n None }
+    ensures fault { let document = document_of nodes.now used.now.keys in
+        result_err result ≡ fault_of_add document n None }
     ensures place { IfOk result (λ place. IsPlaced nodes.now None place.index place.depth) }
 {
     if used.contains(&n) {
@@ -106,7 +109,8 @@ pub fn place_of(
     parent: Option<u32>,
 ) -> Result<Place, TreeFault>
     requires { IsSound nodes.now used.now.keys }
-    ensures fault { result_err result ≡ fault_of_add (document_of nodes.now used.now.keys) n parent }
+    ensures fault { let document = document_of nodes.now used.now.keys in
+        result_err result ≡ fault_of_add document n parent }
     ensures place { IfOk result (λ place. IsPlaced nodes.now parent place.index place.depth) }
 {
     match parent {

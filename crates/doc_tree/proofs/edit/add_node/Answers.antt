@@ -1,5 +1,4 @@
 use Rattle.doc_tree.proofs.Adding.{added}
-use Rattle.doc_tree.proofs.Restyling.{grown-changed}
 use Rattle.doc_tree.proofs.edit.add_node.Goals as goal
 
 pub returns-in-Ok-put-clause-sound : goal.returns-in-Ok-put-clause-sound

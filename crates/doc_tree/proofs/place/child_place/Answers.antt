@@ -1,7 +1,6 @@
-use Rattle.std.proofs.Common.{◌≡◌, ◌+◌, refl, sym, arith, get_or}
+use Rattle.std.proofs.Common.{◌+◌, refl, arith, get_or}
 use Rattle.std.proofs.lemmas.Bool.{lt-ltb, le-ltb}
 use Rattle.std.proofs.lemmas.List.{length-map}
-use Rattle.doc_tree.specs.Nodes.{element_of}
 use Rattle.doc_tree.proofs.Adding.{found_node, found_depth, placed_behind}
 use Rattle.doc_tree.proofs.place.child_place.Goals as goal
 

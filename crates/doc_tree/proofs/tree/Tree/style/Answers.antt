@@ -1,5 +1,5 @@
-use Rattle.std.proofs.Common.{◌≡◌, ◌∙◌, ◌≤◌, Some, None, List, ℕ, length, sym, ap, subst}
-use Rattle.doc_tree.specs.Element.{Document, style_of}
+use Rattle.std.proofs.Common.{◌∙◌, ◌≤◌, Some, List, ℕ, length, sym, ap, subst}
+use Rattle.doc_tree.specs.Element.{style_of}
 use Rattle.doc_tree.specs.Nodes.{document_of}
 use Rattle.doc_tree.specs.declared.limits.TheConstants.{MAX_STYLE_BYTES}
 use Rattle.doc_tree.proofs.Restyling.{found_style, no_style, short_style}
