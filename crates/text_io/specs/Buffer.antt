@@ -5,7 +5,7 @@ use Rattle.text_io.specs.declared.buffer.Buffer.{Buffer}
 use Rattle.text_io.specs.declared.buffer.TheConstants.{CAPACITY}
 use Rattle.text_io.specs.declared.cut.Cut.{Cut}
 use Rattle.text_io.specs.declared.cut.Cut.TheVariants.{Text, Long, End}
-use Rattle.text_io.specs.declared.limits.TheConstants.{LINE_FEED}
+use Rattle.text_io.specs.declared.limits.TheConstants.{LINE_FEED, MAX_LINE}
 use Rattle.text_io.specs.Lines.{HasNoFeed, lines_of}
 use Rattle.text_io.specs.Reader.{GivesLine}
 
@@ -37,9 +37,9 @@ line_of_cut bytes (Text span) = Some (Some (slice_range bytes span.from span.to)
 line_of_cut bytes Long = Some None
 line_of_cut bytes End = None
 
--- the text stands in the buffer
+-- the text stands in the buffer, and is within a line's limit
 abbrev pub IsWithin : Cut → Type 0
-IsWithin (Text span) = (span.from ≤ span.to) × (span.to ≤ CAPACITY)
+IsWithin (Text span) = (span.from ≤ span.to) × (span.to ≤ CAPACITY) × (span.to ≤ span.from + MAX_LINE)
 IsWithin Long = ⊤
 IsWithin End = ⊤
 

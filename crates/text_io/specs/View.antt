@@ -1,6 +1,6 @@
 -- What a reader of lines shows of its fields.
-use Rattle.std.specs.Prelude.{ℕ, ◌≤◌, List, slice_range, Option, None, Some, ⊤}
-use Rattle.text_io.specs.declared.limits.TheConstants.{MAX_INPUT}
+use Rattle.std.specs.Prelude.{ℕ, ◌+◌, ◌≤◌, List, slice_range, Option, None, Some, ⊤}
+use Rattle.text_io.specs.declared.limits.TheConstants.{MAX_INPUT, MAX_LINE}
 use Rattle.text_io.specs.declared.buffer.TheConstants.{CAPACITY}
 use Rattle.text_io.specs.declared.fault.LineFault.{LineFault}
 use Rattle.text_io.specs.declared.lines.State.{State}
@@ -18,8 +18,8 @@ text_in bytes Ready = None
 text_in bytes (Lent span) = Some (slice_range bytes span.from span.to)
 text_in bytes (Failed fault) = None
 
--- a reader that met no fault took no more than the limit, and what it lends stands in its buffer
+-- a reader that met no fault took no more than the limit, and what it lends stands in its buffer and is within a line's limit
 abbrev pub IsSound : ℕ → State → Type 0
 IsSound taken Ready = taken ≤ MAX_INPUT
-IsSound taken (Lent span) = (taken ≤ MAX_INPUT) × (span.from ≤ span.to) × (span.to ≤ CAPACITY)
+IsSound taken (Lent span) = (taken ≤ MAX_INPUT) × (span.from ≤ span.to) × (span.to ≤ CAPACITY) × (span.to ≤ span.from + MAX_LINE)
 IsSound taken (Failed fault) = ⊤

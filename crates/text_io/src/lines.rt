@@ -1,5 +1,5 @@
 //! The lines of the bytes that a source gives.
-ghost use Rattle.std.specs.Prelude.{◌≡◌, ◌≢◌, ◌↔◌, ◌⊎◌, ◌+◌, ◌-◌, ◌≤◌, ◌<◌, ◌++◌, [], Some, None, Ok, Err, take, IsOk, IsSome, IfSome, IsSomeAnd, IfOk};
+ghost use Rattle.std.specs.Prelude.{◌≡◌, length, ◌≢◌, ◌↔◌, ◌⊎◌, ◌+◌, ◌-◌, ◌≤◌, ◌<◌, ◌++◌, [], Some, None, Ok, Err, take, IsOk, IsSome, IfSome, IsSomeAnd, IfOk};
 ghost use Rattle.std.specs.Result.{result_err};
 ghost use Rattle.text_io.specs.Causes.{Rose};
 ghost use Rattle.text_io.specs.Told.{Told};
@@ -10,7 +10,7 @@ use crate::buffer::Buffer;
 use crate::cut::{Cut, Span};
 use crate::cutter::next_cut;
 use crate::fault::LineFault;
-use crate::limits::MAX_INPUT;
+use crate::limits::{MAX_INPUT, MAX_LINE};
 use crate::source::Source;
 use std::alloc::{AllocError, Global};
 use std::marker::Model;
