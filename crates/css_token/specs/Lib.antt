@@ -1,0 +1,4 @@
+pub mod Characters
+pub mod Productions
+pub mod TokenLists
+pub mod Fronts
