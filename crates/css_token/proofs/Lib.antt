@@ -6,3 +6,4 @@ pub mod Texts
 pub mod Fronts
 pub mod Longest
 pub mod Lists
+pub mod Reading

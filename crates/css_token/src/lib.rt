@@ -9,6 +9,6 @@ mod pieces;
 mod token;
 mod tokenizer;
 
-pub use laws::{never_both, one_list, one_place};
+pub use laws::{dimension_parts, never_both, one_list, one_place, one_reading};
 pub use token::{Kind, Token};
 pub use tokenizer::{TokenFault, tokens};

@@ -1,7 +1,8 @@
-use Rattle.std.proofs.Common.{◌+◌, sym, ap, subst, not, ◌∙◌, arith}
+use Rattle.std.proofs.Common.{◌+◌, sym, ap, subst, is_ok, ◌∙◌, arith}
 use Rattle.std.proofs.ResultArms.{chosen}
 use Rattle.css_token.specs.TokenLists.{Reads, start}
 use Rattle.css_token.proofs.Lists.{took_comment, took_token, stopped_at, all_read, reads_well}
+use Rattle.css_token.proofs.Reading.{reads_tokens, reads_bad}
 use Rattle.css_token.proofs.tokenizer.tokens.Goals as goal
 
 pub loop-at-init : goal.loop-at-init
@@ -25,8 +26,8 @@ overflow_add-at-in-Token c =
     let took = took_token _ _ _ _ _ _ _ c.as_bytes-bytes.ensures.value c.after.ensures.value c.loop-at.invariant c.in-Token.ensures in
     omega (arith, took.2)
 
-pub overflow_cast-token : goal.overflow_cast-token
-overflow_cast-token c =
+pub overflow_cast-to : goal.overflow_cast-to
+overflow_cast-to c =
     let took = took_token _ _ _ _ _ _ _ c.as_bytes-bytes.ensures.value c.after.ensures.value c.loop-at.invariant c.in-Token.ensures in
     omega (arith, took.2)
 
@@ -38,7 +39,7 @@ loop-at-smaller c =
 pub loop-at-preserved : goal.loop-at-preserved
 loop-at-preserved c =
     let took = took_token _ _ _ _ _ _ _ c.as_bytes-bytes.ensures.value c.after.ensures.value c.loop-at.invariant c.in-Token.ensures in
-    let pushed = chosen _ _ _ _ c.push.ensures.items (c.is_err.ensures.negation ∙ ap not c.if-is_err.false) in
+    let pushed = chosen _ _ _ _ c.push.ensures.items (sym c.map_err.ensures.variant ∙ ap is_ok c.in_ok-map_err-in-Token.was) in
     subst (λ l. Reads c.args.text.now l (c.loop-at.at + c.in-Token.len)) (sym pushed) took.0
 
 pub returns-in-Bad-clause-answer : goal.returns-in-Bad-clause-answer
@@ -52,3 +53,10 @@ returns-clause-each c = (reads_well _ _ _ c.loop-at.invariant).each
 
 pub returns-clause-ordered : goal.returns-clause-ordered
 returns-clause-ordered c = (reads_well _ _ _ c.loop-at.invariant).ordered
+
+pub returns-in-Bad-clause-reading : goal.returns-in-Bad-clause-reading
+returns-in-Bad-clause-reading c =
+    (reads_bad _ _).1 (stopped_at _ _ _ _ _ c.as_bytes-bytes.ensures.value c.after.ensures.value c.loop-at.invariant c.loop-at-test.true c.in-Bad.ensures)
+
+pub returns-clause-reading : goal.returns-clause-reading
+returns-clause-reading c = (reads_tokens _ _).1 (all_read _ _ _ _ c.as_bytes-bytes.ensures.value c.loop-at.invariant c.loop-at-test.false)
