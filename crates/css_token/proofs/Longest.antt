@@ -82,19 +82,19 @@ at_number_of at bs rest is comment =
     let first = number_no_space (get_or (bs ++ rest) 0 0) (number_first bs rest is) in
     at_number at (bs ++ rest) first.0 first.1 comment (omega (arith, number_some bs is, number_reaches bs rest is))
 
-number_piece : (at len : ℕ) (bs : List ℕ) → len ≤ number_len bs → Reaches (numeric at (number_len bs) bs) Number len
+numeric_reaches : (at len : ℕ) (kind : Kind) (bs : List ℕ) → len ≤ number_len bs → (len ≡ number_len bs → kind ≡ Number) → Reaches (numeric at (number_len bs) bs) kind len
 unfolding numeric
-number_piece at len bs reaches =
-    let P : Piece → Type 0 = λ p. Reaches p Number len in
+numeric_reaches at len kind bs reaches same =
+    let P : Piece → Type 0 = λ p. Reaches p kind len in
     let n = number_len bs in
     cond_both (eqb (get_or bs n 0) 37) _ _ P
-    (λ _. longer Percent Number _ _ (omega arith))
+    (λ _. longer Percent kind _ _ (omega arith))
     (λ _. cond_both (eqb (identifier_len (drop n bs)) 0) _ _ P
-    (λ _. same_kind Number _ _ reaches)
-    (λ some. longer _ Number _ _ (let ne = eqb-false (identifier_len (drop n bs)) 0 some in omega arith)))
+    (λ _. (reaches, same))
+    (λ some. longer _ kind _ _ (let ne = eqb-false (identifier_len (drop n bs)) 0 some in omega arith)))
 
 number_kind_reaches : (at : ℕ) (bs rest : List ℕ) → IsNumber bs → begins_comment (bs ++ rest) ≡ false → Reaches (piece_at at (bs ++ rest)) Number (length bs)
-number_kind_reaches at bs rest is comment = by_piece _ _ Number _ (at_number_of at bs rest is comment) (number_piece at (length bs) (bs ++ rest) (number_reaches bs rest is))
+number_kind_reaches at bs rest is comment = by_piece _ _ Number _ (at_number_of at bs rest is comment) (numeric_reaches at (length bs) Number (bs ++ rest) (number_reaches bs rest is) (λ _. refl))
 
 percent_piece : (at : ℕ) (number rest : List ℕ) → IsNumber number → numeric at (number_len (number ++ 37 ∷ rest)) (number ++ 37 ∷ rest) ≡ Token Percent (length number + 1)
 unfolding numeric
@@ -220,15 +220,6 @@ one_start b name = elim (or_cases (is_name_start b) (eqb b 45 && false) name.0) 
   | inr dash ↦ absurd (false≢true (and_parts (eqb b 45) false dash).1)
 ]
 
-numeric_longer : (at len : ℕ) (kind : Kind) (bs : List ℕ) → len < number_len bs → Reaches (numeric at (number_len bs) bs) kind len
-unfolding numeric
-numeric_longer at len kind bs more =
-    let P : Piece → Type 0 = λ p. Reaches p kind len in
-    let n = number_len bs in
-    cond_both (eqb (get_or bs n 0) 37) _ _ P
-    (λ _. longer Percent kind _ _ (omega arith))
-    (λ _. cond_both (eqb (identifier_len (drop n bs)) 0) _ _ P (λ _. longer Number kind _ _ more) (λ _. longer _ kind _ _ (omega arith)))
-
 number_two : (b : ℕ) (rest : List ℕ) → is_ascii_digit b ≡ false → 0 < number_len (b ∷ rest) → 1 < number_len (b ∷ rest)
 number_two b rest other some = elim (cases_lt 1 (number_len (b ∷ rest))) [
   | inl more ↦ more
@@ -265,7 +256,7 @@ delim_reaches at b rest is comment url =
     let none = no_class b alone.0 in
     elim (cases_lt 0 (number_len (b ∷ rest))) [
       | inl number ↦
-          by_piece _ _ Delim 1 (at_number at (b ∷ rest) none.0 none.1 comment number) (numeric_longer at 1 Delim (b ∷ rest) (number_two b rest none.2 number))
+          by_piece _ _ Delim 1 (at_number at (b ∷ rest) none.0 none.1 comment number) (let two = number_two b rest none.2 number in numeric_reaches at 1 Delim (b ∷ rest) (omega arith) (λ same. absurd (omega arith)))
       | inr number ↦ elim (cases_Bool (begins_identifier (b ∷ rest))) [
         | inl name ↦
             let two = name_two b rest none.3 name in

@@ -13,10 +13,6 @@ use Rattle.css_token.proofs.Runs.{run_reaches, run_stops, run_all, some_run}
 unfoldable pub begins_with : ℕ → ℕ → Bool
 begins_with a b = is_name_start a || (eqb a 45 && (eqb b 45 || is_name_start b))
 
--- a name-start character is a name character
-start_is_name : (b : ℕ) → is_name_start b ≡ true → is_name b ≡ true
-start_is_name b is = or_left _ _ (or_left _ _ is)
-
 -- an identifier begins with a name character
 pub begins_with_name : (bs : List ℕ) → begins_identifier bs ≡ true → is_name (get_or bs 0 0) ≡ true
 begins_with_name bs begins = grind arith

@@ -1,7 +1,7 @@
 -- The longest run of a class at the front of a list.
-use Rattle.std.proofs.Common.{◌≡◌, ℕ, ◌+◌, ◌<◌, ◌≤◌, suc, Bool, true, false, List, [], ◌∷◌, ◌++◌, length, get_or, take, drop, eqb, ap, inl, inr, refl, sym, ◌∙◌, subst, arith}
+use Rattle.std.proofs.Common.{◌≡◌, ℕ, ◌+◌, ◌<◌, ◌≤◌, suc, Bool, true, false, List, [], ◌∷◌, ◌++◌, length, get_or, take, drop, ap, inl, inr, refl, sym, ◌∙◌, subst, arith}
 use Rattle.std.specs.List.{prefix_len, list_all}
-use Rattle.std.proofs.lemmas.Bool.{and_parts, and_from, eqb-true, false≢true, cond-true, cond-false, cases_Bool, cases_lt}
+use Rattle.std.proofs.lemmas.Bool.{and_parts, and_from, false≢true, cond-true, cond-false, cases_Bool, cases_lt}
 use Rattle.std.proofs.lemmas.List.{drop_at, get_or_past, take_more}
 use Rattle.std.proofs.lemmas.List.Folds.{length-prefix_len}
 use Rattle.css_token.specs.Productions.{IsRun}
@@ -51,10 +51,6 @@ run_all p (x ∷ xs) = elim (cases_Bool (p x)) [
 -- what stands behind a run that ends there
 pub behind_run : (p : ℕ → Bool) (xs : List ℕ) (y : ℕ) (ys : List ℕ) → list_all p xs ≡ true → p y ≡ false → drop (prefix_len p (xs ++ y ∷ ys)) (xs ++ y ∷ ys) ≡ y ∷ ys
 behind_run p xs y ys all stops = drop_at xs (y ∷ ys) _ (sym (run_stops p xs y ys all stops))
-
--- a byte that is a value is of the value's classes
-pub at_value : (p : ℕ → Bool) (b value : ℕ) (answer : Bool) → eqb b value ≡ true → p value ≡ answer → p b ≡ answer
-at_value p b value answer same known = ap p (eqb-true b value same) ∙ known
 
 -- a class that has none of the bytes of another
 pub apart_from : (p q : ℕ → Bool) (b : ℕ) → (q b ≡ true → p b ≡ false) → p b ≡ true → q b ≡ false

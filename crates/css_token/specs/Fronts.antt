@@ -16,7 +16,9 @@ identifier_len bs = if begins_identifier bs then prefix_len is_name bs else 0
 
 -- of a point and the digits behind it
 unfoldable pub fraction_len : List ℕ → ℕ
-fraction_len bs = if slice_index bs 0 == 46 && is_ascii_digit (slice_index bs 1) then 1 + prefix_len is_ascii_digit (drop 1 bs) else 0
+fraction_len bs =
+    if slice_index bs 0 == 46 && is_ascii_digit (slice_index bs 1) then 1 + prefix_len is_ascii_digit (drop 1 bs)
+    else 0
 
 -- of digits and a fraction
 unfoldable pub unsigned_len : List ℕ → ℕ
@@ -30,7 +32,9 @@ number_len bs =
 
 -- of a text behind its first quote, with the last one (4.3.5)
 unfoldable pub text_len : ℕ → List ℕ → ℕ
-text_len quote bs = if slice_index bs (prefix_len (is_text quote) bs) == quote then prefix_len (is_text quote) bs + 1 else 0
+text_len quote bs =
+    let inside = prefix_len (is_text quote) bs in
+    if slice_index bs inside == quote then inside + 1 else 0
 
 -- of a url behind the spaces that follow `url(`, with its `)` (4.3.6)
 unfoldable pub url_rest_len : List ℕ → ℕ
@@ -99,7 +103,8 @@ unfoldable pub piece_at : ℕ → List ℕ → Piece
 piece_at at bs =
     if is_ascii_whitespace (slice_index bs 0) then Token Space (prefix_len is_ascii_whitespace bs)
     else (if is_quote (slice_index bs 0) then closed Text 1 (text_len (slice_index bs 0) (drop 1 bs))
-    else (if begins_comment bs then (if comment_len (drop 2 bs) == 0 then Bad else Comment (2 + comment_len (drop 2 bs)))
+    else (if begins_comment bs then
+    (if comment_len (drop 2 bs) == 0 then Bad else Comment (2 + comment_len (drop 2 bs)))
     else (if nat_lt 0 (number_len bs) then numeric at (number_len bs) bs
     else (if begins_identifier bs then named bs
     else marked bs))))

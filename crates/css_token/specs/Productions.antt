@@ -9,7 +9,8 @@ use Rattle.css_token.specs.declared.token.Kind.TheVariants.{Space, Ident, Functi
 -- Whether the bytes begin as an identifier does: `--`, or a name-start character with or without a `-` before it
 -- (section 4.3.9). Past the end `slice_index` is 0, which is in no class.
 abbrev pub begins_identifier : List ℕ → Bool
-begins_identifier bs = is_name_start (slice_index bs 0) || (slice_index bs 0 == 45 && (slice_index bs 1 == 45 || is_name_start (slice_index bs 1)))
+begins_identifier bs = is_name_start (slice_index bs 0)
+    || (slice_index bs 0 == 45 && (slice_index bs 1 == 45 || is_name_start (slice_index bs 1)))
 
 -- one or more bytes, all of the class
 abbrev pub IsRun : (ℕ → Bool) → List ℕ → Type 0
@@ -22,7 +23,8 @@ IsIdentifier bs = IsTrue (begins_identifier bs) × IsTrue (list_all is_name bs)
 -- digits, or a point with digits behind it, and digits or nothing before it
 abbrev pub IsUnsigned : List ℕ → Type 0
 IsUnsigned bs = IsRun is_ascii_digit bs
-    ⊎ ((whole fraction : List ℕ) × IsTrue (list_all is_ascii_digit whole) × IsRun is_ascii_digit fraction × (bs ≡ whole ++ 46 ∷ fraction))
+    ⊎ ((whole fraction : List ℕ) × IsTrue (list_all is_ascii_digit whole) × IsRun is_ascii_digit fraction
+    × (bs ≡ whole ++ 46 ∷ fraction))
 
 -- a number: with a sign or none, and without an exponent
 abbrev pub IsNumber : List ℕ → Type 0
@@ -31,12 +33,14 @@ IsNumber bs = IsUnsigned bs
 
 -- between two equal quotes, what may stand there
 abbrev pub IsText : List ℕ → Type 0
-IsText bs = (quote : ℕ) × (inside : List ℕ) × IsTrue (is_quote quote) × IsTrue (list_all (is_text quote) inside) × (bs ≡ quote ∷ inside ++ quote ∷ [])
+IsText bs = (quote : ℕ) × (inside : List ℕ) × IsTrue (is_quote quote) × IsTrue (list_all (is_text quote) inside)
+    × (bs ≡ quote ∷ inside ++ quote ∷ [])
 
 -- `url(` in any case, what may stand in a url, with spaces or none at both its ends, and `)`
 abbrev pub IsUrl : List ℕ → Type 0
 IsUrl bs = (word before inside after : List ℕ) × (map to_ascii_lowercase word ≡ codes "url")
-    × IsTrue (list_all is_ascii_whitespace before) × IsTrue (list_all is_url inside) × IsTrue (list_all is_ascii_whitespace after)
+    × IsTrue (list_all is_ascii_whitespace before) × IsTrue (list_all is_url inside)
+    × IsTrue (list_all is_ascii_whitespace after)
     × (bs ≡ word ++ 40 ∷ before ++ inside ++ after ++ 41 ∷ [])
 
 -- what a token of a kind is, from the place `at` in the text on
@@ -50,7 +54,8 @@ IsLexeme at Text bs = IsText bs
 IsLexeme at Url bs = IsUrl bs
 IsLexeme at Number bs = IsNumber bs
 IsLexeme at Percent bs = (number : List ℕ) × IsNumber number × (bs ≡ number ++ 37 ∷ [])
-IsLexeme at (Dimension unit) bs = (number name : List ℕ) × IsNumber number × IsIdentifier name × (bs ≡ number ++ name) × (unit ≡ at + length number)
+IsLexeme at (Dimension unit) bs = (number name : List ℕ) × IsNumber number × IsIdentifier name × (bs ≡ number ++ name)
+    × (unit ≡ at + length number)
 IsLexeme at Colon bs = bs ≡ codes ":"
 IsLexeme at Semicolon bs = bs ≡ codes ";"
 IsLexeme at Comma bs = bs ≡ codes ","

@@ -2,7 +2,7 @@
 ghost use Rattle.css_token.specs.TokenLists.{LiesWithin, bytes_of};
 ghost use Rattle.std.specs.Prelude.{◌≡◌};
 
-/// What a token is (CSS Syntax Level 3, 4). A token's bytes are the text's from `from` up to `to`.
+/// What a token is (CSS Syntax Level 3, 4).
 #[derive(Clone, Copy, Debug, PartialEq, Eq)]
 pub enum Kind {
     /// A run of spaces: space, tab, line feed, carriage return, form feed.
@@ -47,11 +47,13 @@ pub enum Kind {
     Delim,
 }
 
-/// A token of a text: the bytes from `from` up to `to`, which is behind the last.
+/// A token of a text, by the place of its bytes there.
 #[derive(Clone, Copy, Debug, PartialEq, Eq)]
 pub struct Token {
     pub kind: Kind,
+    /// The index of its first byte.
     pub from: u32,
+    /// The index behind its last byte.
     pub to: u32,
 }
 
