@@ -9,7 +9,7 @@ use Rattle.std.proofs.Math.Seq.{take-add}
 use Rattle.css_token.specs.Characters.{is_name, is_quote, is_delim}
 use Rattle.css_token.specs.Productions.{IsLexeme, IsComment, begins_identifier, begins_comment, begins_url}
 use Rattle.css_token.specs.TokenLists.{Begins}
-use Rattle.css_token.specs.Fronts.{identifier_len, number_len, text_len, url_len, comment_len, closed, mark, numeric, named, marked, piece_at}
+use Rattle.css_token.specs.Fronts.{identifier_len, number_len, text_len, url_len, comment_len, closed_piece, lone_piece, numeric_piece, name_piece, mark_piece, piece_at}
 use Rattle.css_token.specs.declared.token.Kind.{Kind}
 use Rattle.css_token.specs.declared.token.Kind.TheVariants.{Space, Ident, Function, AtWord, Hash, Text, Url, Number, Percent, Dimension, Colon, Semicolon, Comma, RoundOpen, RoundClose, SquareOpen, SquareClose, CurlyOpen, CurlyClose, Delim}
 use Rattle.css_token.specs.declared.pieces.Piece.{Piece}
@@ -52,8 +52,8 @@ pub quote_no_space : (b : ℕ) → is_quote b ≡ true → is_ascii_whitespace b
 quote_no_space b is = grind arith
 
 -- a token of an opening and a rest
-pub closed_both : (P : Piece → Type 0) (kind : Kind) (opening len : ℕ) → P Bad → (0 < len → P (Token kind (opening + len))) → P (closed kind opening len)
-unfolding closed
+pub closed_both : (P : Piece → Type 0) (kind : Kind) (opening len : ℕ) → P Bad → (0 < len → P (Token kind (opening + len))) → P (closed_piece kind opening len)
+unfolding closed_piece
 closed_both P kind opening len bad good = cond_both (eqb len 0) Bad (Token kind (opening + len)) P (λ _. bad) (λ some. good (let ne = eqb-false len 0 some in omega arith))
 
 -- the ways through the function
@@ -61,13 +61,13 @@ pub at_space : (at : ℕ) (bs : List ℕ) → is_ascii_whitespace (get_or bs 0 0
 unfolding piece_at
 at_space at bs space = cond-true (is_ascii_whitespace (get_or bs 0 0)) _ _ space
 
-pub at_quote : (at : ℕ) (bs : List ℕ) → is_quote (get_or bs 0 0) ≡ true → piece_at at bs ≡ closed Text 1 (text_len (get_or bs 0 0) (drop 1 bs))
+pub at_quote : (at : ℕ) (bs : List ℕ) → is_quote (get_or bs 0 0) ≡ true → piece_at at bs ≡ closed_piece Text 1 (text_len (get_or bs 0 0) (drop 1 bs))
 unfolding piece_at
 at_quote at bs quote = cond-false (is_ascii_whitespace (get_or bs 0 0)) _ _ (quote_no_space (get_or bs 0 0) quote) ∙ cond-true (is_quote (get_or bs 0 0)) _ _ quote
 
 -- what stands where no space and no quote begins
 past_quotes : (at : ℕ) (bs : List ℕ) → is_ascii_whitespace (get_or bs 0 0) ≡ false → is_quote (get_or bs 0 0) ≡ false
-    → piece_at at bs ≡ cond (begins_comment bs) (cond (eqb (comment_len (drop 2 bs)) 0) Bad (Comment (2 + comment_len (drop 2 bs)))) (cond (ltb 0 (number_len bs)) (numeric at (number_len bs) bs) (cond (begins_identifier bs) (named bs) (marked bs)))
+    → piece_at at bs ≡ cond (begins_comment bs) (cond (eqb (comment_len (drop 2 bs)) 0) Bad (Comment (2 + comment_len (drop 2 bs)))) (cond (ltb 0 (number_len bs)) (numeric_piece at (number_len bs) bs) (cond (begins_identifier bs) (name_piece bs) (mark_piece bs)))
 unfolding piece_at
 past_quotes at bs space quote = cond-false (is_ascii_whitespace (get_or bs 0 0)) _ _ space ∙ cond-false (is_quote (get_or bs 0 0)) _ _ quote
 
@@ -75,16 +75,16 @@ pub at_comment : (at : ℕ) (bs : List ℕ) → begins_comment bs ≡ true → p
 at_comment at bs comment = past_quotes at bs (grind arith) (grind arith) ∙ cond-true (begins_comment bs) _ _ comment
 
 pub at_number : (at : ℕ) (bs : List ℕ) → is_ascii_whitespace (get_or bs 0 0) ≡ false → is_quote (get_or bs 0 0) ≡ false → begins_comment bs ≡ false → 0 < number_len bs
-    → piece_at at bs ≡ numeric at (number_len bs) bs
+    → piece_at at bs ≡ numeric_piece at (number_len bs) bs
 at_number at bs space quote comment some = past_quotes at bs space quote ∙ cond-false (begins_comment bs) _ _ comment ∙ cond-true (ltb 0 (number_len bs)) _ _ (lt-ltb _ _ some)
 
-pub at_name : (at : ℕ) (bs : List ℕ) → begins_comment bs ≡ false → begins_identifier bs ≡ true → piece_at at bs ≡ named bs
+pub at_name : (at : ℕ) (bs : List ℕ) → begins_comment bs ≡ false → begins_identifier bs ≡ true → piece_at at bs ≡ name_piece bs
 at_name at bs comment name =
     past_quotes at bs (name_no_space bs name) (name_no_quote bs name) ∙ cond-false (begins_comment bs) _ _ comment
     ∙ cond-false (ltb 0 (number_len bs)) _ _ (le-ltb _ _ (omega (arith, no_number bs name))) ∙ cond-true (begins_identifier bs) _ _ name
 
 pub at_mark : (at : ℕ) (bs : List ℕ) → is_ascii_whitespace (get_or bs 0 0) ≡ false → is_quote (get_or bs 0 0) ≡ false → begins_comment bs ≡ false → number_len bs ≡ 0 → begins_identifier bs ≡ false
-    → piece_at at bs ≡ marked bs
+    → piece_at at bs ≡ mark_piece bs
 at_mark at bs space quote comment number name =
     past_quotes at bs space quote ∙ cond-false (begins_comment bs) _ _ comment
     ∙ cond-false (ltb 0 (number_len bs)) _ _ (le-ltb _ _ (omega arith)) ∙ cond-false (begins_identifier bs) _ _ name
@@ -95,7 +95,7 @@ space_sound at bs space =
     let alone = space_alone bs space in
     begins at Space _ bs (prefix_len-le-length is_ascii_whitespace bs) (run_sound is_ascii_whitespace bs refl space) alone.0 alone.1
 
-quote_sound : (at : ℕ) (bs : List ℕ) → is_quote (get_or bs 0 0) ≡ true → PieceOf at bs (closed Text 1 (text_len (get_or bs 0 0) (drop 1 bs)))
+quote_sound : (at : ℕ) (bs : List ℕ) → is_quote (get_or bs 0 0) ≡ true → PieceOf at bs (closed_piece Text 1 (text_len (get_or bs 0 0) (drop 1 bs)))
 quote_sound at bs is =
     let quote = get_or bs 0 0 in
     let alone = quote_alone bs is in
@@ -117,8 +117,8 @@ comment_piece at (a ∷ b ∷ bs) is = cond_both (eqb (comment_len bs) 0) Bad (C
     let sound = comment_sound bs (omega arith) in
     (omega (arith, sound.0), subst (λ l. IsComment (take (2 + comment_len bs) l)) (sym front) sound.1))
 
-numeric_sound : (at : ℕ) (bs : List ℕ) → begins_comment bs ≡ false → 0 < number_len bs → PieceOf at bs (numeric at (number_len bs) bs)
-unfolding numeric
+numeric_sound : (at : ℕ) (bs : List ℕ) → begins_comment bs ≡ false → 0 < number_len bs → PieceOf at bs (numeric_piece at (number_len bs) bs)
+unfolding numeric_piece
 numeric_sound at bs comment some =
     let len = number_len bs in
     let number = number_sound bs some in
@@ -144,8 +144,8 @@ numeric_sound at bs comment some =
     )
     comment url))
 
-named_sound : (at : ℕ) (bs : List ℕ) → begins_comment bs ≡ false → begins_identifier bs ≡ true → PieceOf at bs (named bs)
-unfolding named
+named_sound : (at : ℕ) (bs : List ℕ) → begins_comment bs ≡ false → begins_identifier bs ≡ true → PieceOf at bs (name_piece bs)
+unfolding name_piece
 named_sound at bs comment starts =
     let len = identifier_len bs in
     cond_both (begins_url bs) _ _ (PieceOf at bs)
@@ -158,8 +158,8 @@ named_sound at bs comment starts =
     (take len bs, identifier_front bs starts, take_with_byte bs len 40 (eqb-true _ 40 round) (omega arith)) comment url)
     (λ _. begins at Ident len bs (identifier_within bs) (identifier_front bs starts) comment url))
 
-mark_sound : (at b : ℕ) (rest : List ℕ) → begins_comment (b ∷ rest) ≡ false → begins_url (b ∷ rest) ≡ false → PieceOf at (b ∷ rest) (mark b)
-unfolding mark
+mark_sound : (at b : ℕ) (rest : List ℕ) → begins_comment (b ∷ rest) ≡ false → begins_url (b ∷ rest) ≡ false → PieceOf at (b ∷ rest) (lone_piece b)
+unfolding lone_piece
 mark_sound at b rest comment url =
     let P : Piece → Type 0 = PieceOf at (b ∷ rest) in
     let single : (kind : Kind) → IsLexeme at kind (b ∷ []) → PieceOf at (b ∷ rest) (Token kind 1) = λ kind lexeme. begins at kind 1 (b ∷ rest) (omega arith) lexeme comment url in
@@ -175,8 +175,8 @@ mark_sound at b rest comment url =
     cond_both (eqb b 125) _ _ P (λ e. single CurlyClose (is 125 e)) (λ _.
     cond_both (is_delim b) _ _ P (λ e. single Delim (b, e, refl)) (λ _. tt))))))))))
 
-marked_sound : (at : ℕ) (bs : List ℕ) → begins_comment bs ≡ false → begins_identifier bs ≡ false → PieceOf at bs (marked bs)
-unfolding marked mark
+marked_sound : (at : ℕ) (bs : List ℕ) → begins_comment bs ≡ false → begins_identifier bs ≡ false → PieceOf at bs (mark_piece bs)
+unfolding mark_piece lone_piece
 marked_sound at [] comment name = tt
 marked_sound at (b ∷ bs) comment name =
     let url = no_url (b ∷ bs) name in

@@ -7,7 +7,7 @@ use Rattle.std.proofs.lemmas.List.Elements.{All-nil, All-push, All-weaker, All-g
 use Rattle.std.proofs.lemmas.List.Quantifiers.{all_pairs_push}
 use Rattle.css_token.specs.Productions.{IsLexeme, IsComment}
 use Rattle.css_token.specs.TokenLists.{Begins, IsNext, IsBad, token, Reads, start, past_comment, past_token, AreTokens, IsFirstBad, UnitLiesWithin, bytes_of, IsTokenOf}
-use Rattle.css_token.specs.Fronts.{fraction_len, unsigned_len, number_len, marked, mark, piece_at}
+use Rattle.css_token.specs.Fronts.{fraction_len, unsigned_len, number_len, mark_piece, lone_piece, piece_at}
 use Rattle.css_token.specs.declared.token.Kind.{Kind}
 use Rattle.css_token.specs.declared.token.Kind.TheVariants.{Space, Ident, Function, AtWord, Hash, Text, Url, Number, Percent, Dimension, Colon, Semicolon, Comma, RoundOpen, RoundClose, SquareOpen, SquareClose, CurlyOpen, CurlyClose, Delim}
 use Rattle.css_token.specs.declared.token.Token.{Token}
@@ -107,7 +107,7 @@ one_stop text ts us at place first stops second stops' =
     (λ i. (same i).0, λ i. (same i).1)
 
 end_stops : (text : List ℕ) → Stops text (length text)
-unfolding Stops piece_at number_len unsigned_len fraction_len marked mark
+unfolding Stops piece_at number_len unsigned_len fraction_len mark_piece lone_piece
 end_stops text = ap (piece_at (length text)) (drop_all (length text) text (omega arith))
 
 bad_stops : (text : List ℕ) (at : ℕ) → IsBad at (drop at text) → Stops text at

@@ -8,7 +8,7 @@ use Rattle.std.proofs.lemmas.List.{length-take-le, get_or_at, drop_at}
 use Rattle.css_token.specs.Characters.{is_name_start, is_name, is_quote, is_text, is_url, is_delim}
 use Rattle.css_token.specs.Productions.{IsRun, IsLexeme, IsComment, IsNumber, IsIdentifier, begins_identifier, begins_comment, begins_url}
 use Rattle.css_token.specs.TokenLists.{Begins}
-use Rattle.css_token.specs.Fronts.{fraction_len, unsigned_len, identifier_len, number_len, text_len, url_len, comment_len, closed, mark, numeric, named, marked, piece_at}
+use Rattle.css_token.specs.Fronts.{fraction_len, unsigned_len, identifier_len, number_len, text_len, url_len, comment_len, closed_piece, lone_piece, numeric_piece, name_piece, mark_piece, piece_at}
 use Rattle.css_token.specs.declared.token.Kind.{Kind}
 use Rattle.css_token.specs.declared.token.Kind.TheVariants.{Space, Ident, Function, AtWord, Hash, Text, Url, Number, Percent, Dimension, Colon, Semicolon, Comma, RoundOpen, RoundClose, SquareOpen, SquareClose, CurlyOpen, CurlyClose, Delim}
 use Rattle.css_token.specs.declared.pieces.Piece.{Piece}
@@ -43,8 +43,8 @@ space_reaches at (b ∷ bs) rest run =
     (same_kind Space _ _ (run_reaches is_ascii_whitespace (b ∷ bs) rest run.1))
 
 -- an identifier at the front: what is longer or the same
-named_reaches : (kind : Kind) (len : ℕ) (bs : List ℕ) → begins_url bs ≡ false → len ≤ identifier_len bs → (len ≡ identifier_len bs → kind ≡ Ident) → Reaches (named bs) kind len
-unfolding named
+named_reaches : (kind : Kind) (len : ℕ) (bs : List ℕ) → begins_url bs ≡ false → len ≤ identifier_len bs → (len ≡ identifier_len bs → kind ≡ Ident) → Reaches (name_piece bs) kind len
+unfolding name_piece
 named_reaches kind len bs url reaches same =
     let P : Piece → Type 0 = λ p. Reaches p kind len in
     subst P (sym (cond-false (begins_url bs) _ _ url))
@@ -57,8 +57,8 @@ ident_reaches at bs rest name comment url =
     by_piece _ _ Ident _ (at_name at (bs ++ rest) comment (begins-append bs rest name.0))
     (named_reaches Ident (length bs) (bs ++ rest) url (identifier_reaches bs rest name) (λ _. refl))
 
-function_named : (name rest : List ℕ) → IsIdentifier name → begins_url (name ++ 40 ∷ rest) ≡ false → named (name ++ 40 ∷ rest) ≡ Token Function (length name + 1)
-unfolding named
+function_named : (name rest : List ℕ) → IsIdentifier name → begins_url (name ++ 40 ∷ rest) ≡ false → name_piece (name ++ 40 ∷ rest) ≡ Token Function (length name + 1)
+unfolding name_piece
 function_named name rest is url =
     let bs = name ++ 40 ∷ rest in
     let len : identifier_len (name ++ 40 ∷ rest) ≡ length name = identifier_stops name 40 rest is refl in
@@ -77,13 +77,13 @@ number_no_space : (b : ℕ) → begins_number b ≡ true → (is_ascii_whitespac
 unfolding begins_number
 number_no_space b is = (grind arith, grind arith)
 
-at_number_of : (at : ℕ) (bs rest : List ℕ) → IsNumber bs → begins_comment (bs ++ rest) ≡ false → piece_at at (bs ++ rest) ≡ numeric at (number_len (bs ++ rest)) (bs ++ rest)
+at_number_of : (at : ℕ) (bs rest : List ℕ) → IsNumber bs → begins_comment (bs ++ rest) ≡ false → piece_at at (bs ++ rest) ≡ numeric_piece at (number_len (bs ++ rest)) (bs ++ rest)
 at_number_of at bs rest is comment =
     let first = number_no_space (get_or (bs ++ rest) 0 0) (number_first bs rest is) in
     at_number at (bs ++ rest) first.0 first.1 comment (omega (arith, number_some bs is, number_reaches bs rest is))
 
-numeric_reaches : (at len : ℕ) (kind : Kind) (bs : List ℕ) → len ≤ number_len bs → (len ≡ number_len bs → kind ≡ Number) → Reaches (numeric at (number_len bs) bs) kind len
-unfolding numeric
+numeric_reaches : (at len : ℕ) (kind : Kind) (bs : List ℕ) → len ≤ number_len bs → (len ≡ number_len bs → kind ≡ Number) → Reaches (numeric_piece at (number_len bs) bs) kind len
+unfolding numeric_piece
 numeric_reaches at len kind bs reaches same =
     let P : Piece → Type 0 = λ p. Reaches p kind len in
     let n = number_len bs in
@@ -96,8 +96,8 @@ numeric_reaches at len kind bs reaches same =
 number_kind_reaches : (at : ℕ) (bs rest : List ℕ) → IsNumber bs → begins_comment (bs ++ rest) ≡ false → Reaches (piece_at at (bs ++ rest)) Number (length bs)
 number_kind_reaches at bs rest is comment = by_piece _ _ Number _ (at_number_of at bs rest is comment) (numeric_reaches at (length bs) Number (bs ++ rest) (number_reaches bs rest is) (λ _. refl))
 
-percent_piece : (at : ℕ) (number rest : List ℕ) → IsNumber number → numeric at (number_len (number ++ 37 ∷ rest)) (number ++ 37 ∷ rest) ≡ Token Percent (length number + 1)
-unfolding numeric
+percent_piece : (at : ℕ) (number rest : List ℕ) → IsNumber number → numeric_piece at (number_len (number ++ 37 ∷ rest)) (number ++ 37 ∷ rest) ≡ Token Percent (length number + 1)
+unfolding numeric_piece
 percent_piece at number rest is =
     let bs = number ++ 37 ∷ rest in
     let len : number_len (number ++ 37 ∷ rest) ≡ length number = number_stops number 37 rest is refl refl in
@@ -113,8 +113,8 @@ unit_first : (b : ℕ) (bs : List ℕ) → begins_identifier (b ∷ bs) ≡ true
 unit_first b bs name = (grind arith, grind arith, grind arith)
 
 dimension_piece : (at : ℕ) (number : List ℕ) (b : ℕ) (bs rest : List ℕ) → IsNumber number → IsIdentifier (b ∷ bs)
-    → numeric at (number_len (number ++ (b ∷ bs ++ rest))) (number ++ (b ∷ bs ++ rest)) ≡ Token (Dimension (at + length number)) (length number + identifier_len (b ∷ bs ++ rest))
-unfolding numeric
+    → numeric_piece at (number_len (number ++ (b ∷ bs ++ rest))) (number ++ (b ∷ bs ++ rest)) ≡ Token (Dimension (at + length number)) (length number + identifier_len (b ∷ bs ++ rest))
+unfolding numeric_piece
 dimension_piece at number b bs rest is name =
     let text = number ++ (b ∷ bs ++ rest) in
     let first = unit_first b bs name.0 in
@@ -132,8 +132,8 @@ dimension_reaches at number (b ∷ bs) rest is name comment =
     by_piece _ _ (Dimension (at + length number)) _ (at_number_of at number (b ∷ bs ++ rest) is comment ∙ dimension_piece at number b bs rest is name)
     (same_kind (Dimension (at + length number)) _ _ (omega (arith, length-append number (b ∷ bs), identifier_reaches (b ∷ bs) rest name)))
 
-closed_is : (kind : Kind) (opening len : ℕ) → 0 < len → closed kind opening len ≡ Token kind (opening + len)
-unfolding closed
+closed_is : (kind : Kind) (opening len : ℕ) → 0 < len → closed_piece kind opening len ≡ Token kind (opening + len)
+unfolding closed_piece
 closed_is kind opening len some = cond-false (eqb len 0) _ _ (ne_eqb _ 0 (omega arith))
 
 text_reaches : (at quote : ℕ) (inside rest : List ℕ) → is_quote quote ≡ true → list_all (is_text quote) inside ≡ true → Reaches (piece_at at (quote ∷ (inside ++ quote ∷ rest))) Text (length (quote ∷ inside ++ quote ∷ []))
@@ -142,8 +142,8 @@ text_reaches at quote inside rest is all =
     by_piece _ _ Text _ (at_quote at (quote ∷ (inside ++ quote ∷ rest)) is ∙ closed_is Text 1 _ (omega arith))
     (same_kind Text _ _ (omega (arith, length-append inside (quote ∷ []))))
 
-url_named : (bs : List ℕ) → begins_url bs ≡ true → 0 < url_len (drop 4 bs) → named bs ≡ Token Url (4 + url_len (drop 4 bs))
-unfolding named
+url_named : (bs : List ℕ) → begins_url bs ≡ true → 0 < url_len (drop 4 bs) → name_piece bs ≡ Token Url (4 + url_len (drop 4 bs))
+unfolding name_piece
 url_named bs url some = cond-true (begins_url bs) _ _ url ∙ closed_is Url 4 _ some
 
 url_reaches : (at : ℕ) (word before inside after rest : List ℕ) → map to_ascii_lowercase word ≡ codes "url" → list_all is_ascii_whitespace before ≡ true → list_all is_url inside ≡ true → list_all is_ascii_whitespace after ≡ true
@@ -162,14 +162,14 @@ url_reaches at (a ∷ b ∷ c ∷ []) before inside after rest word begins all e
     (same_kind Url _ _ (omega (arith, len.0)))
 
 hash_reaches : (at : ℕ) (name rest : List ℕ) → IsRun is_name name → Reaches (piece_at at (35 ∷ (name ++ rest))) Hash (length (35 ∷ name))
-unfolding number_len unsigned_len fraction_len marked
+unfolding number_len unsigned_len fraction_len mark_piece
 hash_reaches at [] rest run = absurd (omega (arith, run.0))
 hash_reaches at (b ∷ name) rest run =
     by_piece _ _ Hash _ (at_mark at (35 ∷ (b ∷ name ++ rest)) refl refl refl refl refl ∙ cond-true (is_name b) _ _ (and_parts (is_name b) (list_all is_name name) run.1).0)
     (same_kind Hash _ _ (omega (arith, run_reaches is_name (b ∷ name) rest run.1)))
 
 at_word_reaches : (at : ℕ) (name rest : List ℕ) → IsIdentifier name → Reaches (piece_at at (64 ∷ (name ++ rest))) AtWord (length (64 ∷ name))
-unfolding number_len unsigned_len fraction_len marked
+unfolding number_len unsigned_len fraction_len mark_piece
 at_word_reaches at name rest is =
     by_piece _ _ AtWord _ (at_mark at (64 ∷ (name ++ rest)) refl refl refl refl refl ∙ cond-true (begins_identifier (name ++ rest)) _ _ (begins-append name rest is.0))
     (same_kind AtWord _ _ (omega (arith, identifier_reaches name rest is)))
@@ -192,10 +192,10 @@ other_class : ℕ → Bool
 other_class b = is_ascii_whitespace b || is_quote b || is_ascii_digit b || is_name_start b
 
 IsAlone : ℕ → Type 0
-IsAlone b = (other_class b ≡ false) × (mark b ≡ Token Delim 1)
+IsAlone b = (other_class b ≡ false) × (lone_piece b ≡ Token Delim 1)
 
 delim_alone : (b : ℕ) → is_delim b ≡ true → IsAlone b
-unfolding mark other_class IsAlone
+unfolding lone_piece other_class IsAlone
 delim_alone b is = one_of IsAlone b (codes "!#$%&*+-./<=>?@^`|~")
     (((refl, refl), ((refl, refl), ((refl, refl), ((refl, refl), ((refl, refl), ((refl, refl), ((refl, refl), ((refl, refl), ((refl, refl), ((refl, refl), ((refl, refl), ((refl, refl), ((refl, refl), ((refl, refl), ((refl, refl), ((refl, refl), ((refl, refl), ((refl, refl), ((refl, refl), tt)))))))))))))))))))) is
 
@@ -237,8 +237,8 @@ name_two b rest other begins = elim (cases_lt 1 (identifier_len (b ∷ rest))) [
       absurd (false≢true (sym other ∙ one_start b (subst (λ n. IsIdentifier (take n (b ∷ rest))) one (identifier_front (b ∷ rest) begins))))
 ]
 
-marked_delim : (b : ℕ) (rest : List ℕ) → mark b ≡ Token Delim 1 → Reaches (marked (b ∷ rest)) Delim 1
-unfolding marked
+marked_delim : (b : ℕ) (rest : List ℕ) → lone_piece b ≡ Token Delim 1 → Reaches (mark_piece (b ∷ rest)) Delim 1
+unfolding mark_piece
 marked_delim b rest alone =
     let P : Piece → Type 0 = λ p. Reaches p Delim 1 in
     cond_both (eqb b 35 && is_name (get_or rest 0 0)) _ _ P
@@ -270,7 +270,7 @@ regrouped : (at : ℕ) (kind : Kind) (bytes whole rest text : List ℕ) → byte
 regrouped at kind bytes whole rest text is grouped reaches = subst (λ l. Reaches (piece_at at l) kind (length bytes)) (sym grouped) (subst (λ n. Reaches (piece_at at text) kind n) (sym (ap length is)) reaches)
 
 lexeme_reaches : (at : ℕ) (kind : Kind) (bytes rest : List ℕ) → IsLexeme at kind bytes → begins_comment (bytes ++ rest) ≡ false → (begins_url (bytes ++ rest) ≡ true → kind ≡ Url) → Reaches (piece_at at (bytes ++ rest)) kind (length bytes)
-unfolding piece_at number_len unsigned_len fraction_len marked mark
+unfolding piece_at number_len unsigned_len fraction_len mark_piece lone_piece
 lexeme_reaches at Space bytes rest run comment url = space_reaches at bytes rest run
 lexeme_reaches at Ident bytes rest name comment url =
     ident_reaches at bytes rest name comment (false_from_ne_true _ (λ is. let e : Ident ≡ Url = url is in cc))

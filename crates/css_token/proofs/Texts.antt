@@ -10,7 +10,7 @@ use Rattle.std.proofs.lemmas.Bool.{and_from, or_left, eqb-false, ne_eqb}
 use Rattle.std.proofs.lemmas.List.Sums.{prefix_len-le-length}
 use Rattle.std.proofs.Math.Seq.{take-add}
 use Rattle.css_token.specs.Characters.{is_name_start, is_quote, is_text, is_url}
-use Rattle.css_token.specs.Productions.{IsText, IsUrl, quotes, begins_url, begins_identifier}
+use Rattle.css_token.specs.Productions.{IsText, IsUrl, is_quoted, begins_url, begins_identifier}
 use Rattle.css_token.specs.Fronts.{text_len, url_rest_len, url_len}
 use Rattle.css_token.proofs.Runs.{run_stops, behind_run, run_all, apart_from, byte_within, take_with_byte, take-one-more}
 
@@ -96,14 +96,14 @@ url_from bs inside after rest spaces run behind all ends =
     ∙ (λ i. run i + len i)
 
 -- and the byte behind those spaces is no quote
-unquoted : (bs rest : List ℕ) (spaces b : ℕ) → prefix_len is_ascii_whitespace bs ≡ spaces → drop spaces bs ≡ b ∷ rest → is_quote b ≡ false → quotes bs ≡ false
+unquoted : (bs rest : List ℕ) (spaces b : ℕ) → prefix_len is_ascii_whitespace bs ≡ spaces → drop spaces bs ≡ b ∷ rest → is_quote b ≡ false → is_quoted bs ≡ false
 unquoted bs rest spaces b run behind other =
     ap (λ n. is_quote (get_or bs n 0)) run
     ∙ ap is_quote (sym (get_or-drop spaces bs 0 0 ∙ ap (λ n. get_or bs n 0) (add-zero spaces)) ∙ ap (λ l. get_or l 0 0) behind) ∙ other
 
 -- a url behind its `url(`
 pub url_at : (before inside after rest : List ℕ) → list_all is_ascii_whitespace before ≡ true → list_all is_url inside ≡ true → list_all is_ascii_whitespace after ≡ true
-    → (url_len (before ++ (inside ++ (after ++ 41 ∷ rest))) ≡ length before + (length inside + length after + 1)) × (quotes (before ++ (inside ++ (after ++ 41 ∷ rest))) ≡ false)
+    → (url_len (before ++ (inside ++ (after ++ 41 ∷ rest))) ≡ length before + (length inside + length after + 1)) × (is_quoted (before ++ (inside ++ (after ++ 41 ∷ rest))) ≡ false)
 url_at before [] after rest begins all ends =
     let spaces : list_all is_ascii_whitespace (before ++ after) ≡ true = list_all-append is_ascii_whitespace before after ∙ and_from _ _ begins ends in
     let grouped : before ++ (after ++ 41 ∷ rest) ≡ (before ++ after) ++ 41 ∷ rest = sym (append_assoc before after (41 ∷ rest)) in
@@ -178,7 +178,7 @@ url_word (a ∷ []) begins = absurd (grind arith)
 url_word (a ∷ b ∷ []) begins = absurd (grind arith)
 url_word (a ∷ b ∷ c ∷ []) begins = absurd (grind arith)
 url_word (a ∷ b ∷ c ∷ d ∷ rest) begins =
-    let tests = five_true (eqb (to_ascii_lowercase a) 117) (eqb (to_ascii_lowercase b) 114) (eqb (to_ascii_lowercase c) 108) (eqb d 40) (quotes rest) begins in (
+    let tests = five_true (eqb (to_ascii_lowercase a) 117) (eqb (to_ascii_lowercase b) 114) (eqb (to_ascii_lowercase c) 108) (eqb d 40) (is_quoted rest) begins in (
       a,
       b,
       c,
@@ -188,7 +188,7 @@ url_word (a ∷ b ∷ c ∷ d ∷ rest) begins =
     )
 
 -- and the other way round
-pub url_word_begins : (a b c : ℕ) (rest : List ℕ) → map to_ascii_lowercase (a ∷ b ∷ c ∷ []) ≡ codes "url" → quotes rest ≡ false → begins_url (a ∷ b ∷ c ∷ 40 ∷ rest) ≡ true
+pub url_word_begins : (a b c : ℕ) (rest : List ℕ) → map to_ascii_lowercase (a ∷ b ∷ c ∷ []) ≡ codes "url" → is_quoted rest ≡ false → begins_url (a ∷ b ∷ c ∷ 40 ∷ rest) ≡ true
 url_word_begins a b c rest word unquoted =
     let first : to_ascii_lowercase a ≡ 117 = cc in
     let second : to_ascii_lowercase b ≡ 114 = cc in
@@ -201,7 +201,7 @@ lower_starts b is = grind arith
 -- a url begins as an identifier does
 pub url_begins_identifier : (bs : List ℕ) → begins_url bs ≡ true → begins_identifier bs ≡ true
 url_begins_identifier bs begins =
-    let tests = five_true (eqb (to_ascii_lowercase (get_or bs 0 0)) 117) (eqb (to_ascii_lowercase (get_or bs 1 0)) 114) (eqb (to_ascii_lowercase (get_or bs 2 0)) 108) (eqb (get_or bs 3 0) 40) (quotes (drop 4 bs)) begins in
+    let tests = five_true (eqb (to_ascii_lowercase (get_or bs 0 0)) 117) (eqb (to_ascii_lowercase (get_or bs 1 0)) 114) (eqb (to_ascii_lowercase (get_or bs 2 0)) 108) (eqb (get_or bs 3 0) 40) (is_quoted (drop 4 bs)) begins in
     or_left (is_name_start (get_or bs 0 0)) _ (lower_starts (get_or bs 0 0) (eqb-true (to_ascii_lowercase (get_or bs 0 0)) 117 tests.0))
 
 url_front : (a b c : ℕ) (rest : List ℕ) → map to_ascii_lowercase (a ∷ b ∷ c ∷ []) ≡ codes "url" → 0 < url_len rest

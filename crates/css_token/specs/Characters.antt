@@ -28,6 +28,7 @@ is_text quote b = not (b == quote) && not (b == 92) && (not (is_ascii_control b)
 abbrev pub is_url : ℕ → Bool
 is_url b = (is_ascii_graphic b || nat_le 128 b) && not (is_quote b) && not (b == 40) && not (b == 41) && not (b == 92)
 
--- the ASCII characters that stand alone and have no kind of their own
+-- the ASCII characters that stand alone and have no kind of their own: all but letters, digits, `_`, the quotes, the
+-- backslash, spaces, control characters, `:`, `;`, `,` and the brackets
 abbrev pub is_delim : ℕ → Bool
 is_delim b = list_any (λ c. c == b) (codes "!#$%&*+-./<=>?@^`|~")

@@ -10,61 +10,61 @@ use Rattle.css_token.specs.declared.token.Kind.TheVariants.{Space, Ident, Functi
 use Rattle.css_token.specs.declared.pieces.Piece.{Piece}
 use Rattle.css_token.specs.declared.pieces.Piece.TheVariants.{Token, Comment, Bad}
 
--- of the identifier (4.3.11)
+-- the length of the identifier (4.3.11)
 unfoldable pub identifier_len : List ℕ → ℕ
 identifier_len bs = if begins_identifier bs then prefix_len is_name bs else 0
 
--- of a point and the digits behind it
+-- the length of a point and the digits behind it
 unfoldable pub fraction_len : List ℕ → ℕ
 fraction_len bs =
     if slice_index bs 0 == 46 && is_ascii_digit (slice_index bs 1) then 1 + prefix_len is_ascii_digit (drop 1 bs)
     else 0
 
--- of digits and a fraction
+-- the length of digits and a fraction
 unfoldable pub unsigned_len : List ℕ → ℕ
 unsigned_len bs = prefix_len is_ascii_digit bs + fraction_len (drop (prefix_len is_ascii_digit bs) bs)
 
--- of the number (4.3.12)
+-- the length of the number (4.3.12)
 unfoldable pub number_len : List ℕ → ℕ
 number_len bs =
     if is_sign (slice_index bs 0) then (if unsigned_len (drop 1 bs) == 0 then 0 else 1 + unsigned_len (drop 1 bs))
     else unsigned_len bs
 
--- of a text behind its first quote, with the last one (4.3.5)
+-- the length of a text behind its first quote, with the last one (4.3.5)
 unfoldable pub text_len : ℕ → List ℕ → ℕ
 text_len quote bs =
     let inside = prefix_len (is_text quote) bs in
     if slice_index bs inside == quote then inside + 1 else 0
 
--- of a url behind the spaces that follow `url(`, with its `)` (4.3.6)
+-- the length of a url behind the spaces that follow `url(`, with its `)` (4.3.6)
 unfoldable pub url_rest_len : List ℕ → ℕ
 url_rest_len bs =
     let inside = prefix_len is_url bs in
     let spaces = prefix_len is_ascii_whitespace (drop inside bs) in
     if slice_index bs (inside + spaces) == 41 then inside + spaces + 1 else 0
 
--- of a url behind `url(`
+-- the length of a url behind `url(`
 unfoldable pub url_len : List ℕ → ℕ
 url_len bs =
     let spaces = prefix_len is_ascii_whitespace bs in
     if url_rest_len (drop spaces bs) == 0 then 0 else spaces + url_rest_len (drop spaces bs)
 
--- of what stands before the first `*/`
+-- the length of what stands before the first `*/`: of all where there is none
 abbrev pub unclosed_len : List ℕ → ℕ
 unclosed_len [] = 0
 unclosed_len (b ∷ bs) = if b == 42 && slice_index bs 0 == 47 then 0 else 1 + unclosed_len bs
 
--- of a comment behind its `/*`, with its `*/` (4.3.2)
+-- the length of a comment behind its `/*`, with its `*/` (4.3.2)
 unfoldable pub comment_len : List ℕ → ℕ
 comment_len bs = if nat_lt (unclosed_len bs) (length bs) then unclosed_len bs + 2 else 0
 
 -- a token whose rest behind its opening has this length, or a bad one where that is 0
-unfoldable pub closed : Kind → ℕ → ℕ → Piece
-closed kind opening len = if len == 0 then Bad else Token kind (opening + len)
+unfoldable pub closed_piece : Kind → ℕ → ℕ → Piece
+closed_piece kind opening len = if len == 0 then Bad else Token kind (opening + len)
 
 -- a character that stands alone
-unfoldable pub mark : ℕ → Piece
-mark b =
+unfoldable pub lone_piece : ℕ → Piece
+lone_piece b =
     if b == 58 then Token Colon 1
     else (if b == 59 then Token Semicolon 1
     else (if b == 44 then Token Comma 1
@@ -78,33 +78,33 @@ mark b =
     else Bad)))))))))
 
 -- a number of this length, a percent or a dimension (4.3.3)
-unfoldable pub numeric : ℕ → ℕ → List ℕ → Piece
-numeric at len bs =
+unfoldable pub numeric_piece : ℕ → ℕ → List ℕ → Piece
+numeric_piece at len bs =
     if slice_index bs len == 37 then Token Percent (len + 1)
     else (if identifier_len (drop len bs) == 0 then Token Number len
     else Token (Dimension (at + len)) (len + identifier_len (drop len bs)))
 
 -- an identifier, a function or a url (4.3.4)
-unfoldable pub named : List ℕ → Piece
-named bs =
-    if begins_url bs then closed Url 4 (url_len (drop 4 bs))
+unfoldable pub name_piece : List ℕ → Piece
+name_piece bs =
+    if begins_url bs then closed_piece Url 4 (url_len (drop 4 bs))
     else (if slice_index bs (identifier_len bs) == 40 then Token Function (identifier_len bs + 1)
     else Token Ident (identifier_len bs))
 
 -- a hash, an at-word or a character that stands alone
-unfoldable pub marked : List ℕ → Piece
-marked bs =
+unfoldable pub mark_piece : List ℕ → Piece
+mark_piece bs =
     if slice_index bs 0 == 35 && is_name (slice_index bs 1) then Token Hash (1 + prefix_len is_name (drop 1 bs))
     else (if slice_index bs 0 == 64 && begins_identifier (drop 1 bs) then Token AtWord (1 + identifier_len (drop 1 bs))
-    else mark (slice_index bs 0))
+    else lone_piece (slice_index bs 0))
 
 -- the piece at the front of a text that begins at `at` (4.3.1)
 unfoldable pub piece_at : ℕ → List ℕ → Piece
 piece_at at bs =
+    let comment = comment_len (drop 2 bs) in
     if is_ascii_whitespace (slice_index bs 0) then Token Space (prefix_len is_ascii_whitespace bs)
-    else (if is_quote (slice_index bs 0) then closed Text 1 (text_len (slice_index bs 0) (drop 1 bs))
-    else (if begins_comment bs then
-    (if comment_len (drop 2 bs) == 0 then Bad else Comment (2 + comment_len (drop 2 bs)))
-    else (if nat_lt 0 (number_len bs) then numeric at (number_len bs) bs
-    else (if begins_identifier bs then named bs
-    else marked bs))))
+    else (if is_quote (slice_index bs 0) then closed_piece Text 1 (text_len (slice_index bs 0) (drop 1 bs))
+    else (if begins_comment bs then (if comment == 0 then Bad else Comment (2 + comment))
+    else (if nat_lt 0 (number_len bs) then numeric_piece at (number_len bs) bs
+    else (if begins_identifier bs then name_piece bs
+    else mark_piece bs))))

@@ -77,11 +77,11 @@ abbrev pub begins_comment : List ℕ → Bool
 begins_comment bs = slice_index bs 0 == 47 && slice_index bs 1 == 42
 
 -- whether the byte behind the spaces is a quote
-abbrev pub quotes : List ℕ → Bool
-quotes bs = is_quote (slice_index bs (prefix_len is_ascii_whitespace bs))
+abbrev pub is_quoted : List ℕ → Bool
+is_quoted bs = is_quote (slice_index bs (prefix_len is_ascii_whitespace bs))
 
 -- whether a url begins, and no function of that name: `url(` in any case, and no quote behind it, with or without
 -- spaces between (section 4.3.4)
 abbrev pub begins_url : List ℕ → Bool
 begins_url bs = to_ascii_lowercase (slice_index bs 0) == 117 && to_ascii_lowercase (slice_index bs 1) == 114
-    && to_ascii_lowercase (slice_index bs 2) == 108 && slice_index bs 3 == 40 && not (quotes (drop 4 bs))
+    && to_ascii_lowercase (slice_index bs 2) == 108 && slice_index bs 3 == 40 && not (is_quoted (drop 4 bs))

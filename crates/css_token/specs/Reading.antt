@@ -16,16 +16,16 @@ with_token t (Ok tokens) = Ok (t ∷ tokens)
 with_token t (Err at) = Err at
 
 -- what a piece at `at` adds to what is read behind it
-abbrev pub read_piece : ℕ → Piece → (ℕ → Result (List Token) ℕ) → Result (List Token) ℕ
-read_piece at (Whole kind len) behind = with_token (token kind at (at + len)) (behind len)
-read_piece at (Comment len) behind = behind len
-read_piece at Bad behind = Err at
+abbrev pub tokens_at_piece : ℕ → Piece → (ℕ → Result (List Token) ℕ) → Result (List Token) ℕ
+tokens_at_piece at (Whole kind len) behind = with_token (token kind at (at + len)) (behind len)
+tokens_at_piece at (Comment len) behind = behind len
+tokens_at_piece at Bad behind = Err at
 
 -- the tokens of a text that begins at `at`, or where its first bad one begins: at most so many pieces
 abbrev pub tokens_from : ℕ → ℕ → List ℕ → Result (List Token) ℕ
 tokens_from zero at text = Ok []
 tokens_from (suc most) at [] = Ok []
-tokens_from (suc most) at (b ∷ bs) = read_piece at (piece_at at (b ∷ bs)) (λ len. tokens_from most (at + len) (drop len (b ∷ bs)))
+tokens_from (suc most) at (b ∷ bs) = tokens_at_piece at (piece_at at (b ∷ bs)) (λ len. tokens_from most (at + len) (drop len (b ∷ bs)))
 
 -- the tokens of a text, or where its first bad one begins
 unfoldable pub tokens_of : List ℕ → Result (List Token) ℕ

@@ -1,7 +1,7 @@
 //! How many bytes each construct has at the front of a text, 0 where it does not stand there.
 ghost use Rattle.std.specs.Prelude.{◌≡◌, ◌≢◌, ◌+◌, ◌<◌, ◌≤◌, drop, length, slice_index};
 ghost use Rattle.css_token.specs.Fronts.{comment_len, fraction_len, identifier_len, number_len, text_len, unclosed_len, unsigned_len, url_len, url_rest_len};
-ghost use Rattle.css_token.specs.Productions.{begins_comment, begins_identifier, begins_url, quotes};
+ghost use Rattle.css_token.specs.Productions.{begins_comment, begins_identifier, begins_url, is_quoted};
 
 use crate::classes::{
     digits_len, inside_text_len, inside_url_len, is_name_start, is_quote, is_sign, names_len,
@@ -155,8 +155,8 @@ pub(crate) fn begins_comment(bytes: &[u8]) -> bool
 }
 
 /// Whether the byte behind the spaces is a quote.
-fn quotes(bytes: &[u8]) -> bool
-    ensures { result ≡ quotes bytes.now }
+fn is_quoted(bytes: &[u8]) -> bool
+    ensures { result ≡ is_quoted bytes.now }
 {
     is_quote(byte_at(bytes, spaces_len(bytes)))
 }
@@ -168,5 +168,5 @@ pub(crate) fn begins_url(bytes: &[u8]) -> bool
         && byte_at(bytes, 1).to_ascii_lowercase() == b'r'
         && byte_at(bytes, 2).to_ascii_lowercase() == b'l'
         && byte_at(bytes, 3) == b'('
-        && !quotes(after(bytes, 4))
+        && !is_quoted(after(bytes, 4))
 }

@@ -1,6 +1,6 @@
 //! What stands at the front of a text: a token, a comment, or something bad (CSS Syntax Level 3, 4.3.1).
 ghost use Rattle.std.specs.Prelude.{◌≡◌, ◌+◌, ◌^◌, ◌<◌, ◌≤◌, length, slice_index};
-ghost use Rattle.css_token.specs.Fronts.{closed, mark, marked, named, numeric, piece_at};
+ghost use Rattle.css_token.specs.Fronts.{closed_piece, lone_piece, mark_piece, name_piece, numeric_piece, piece_at};
 ghost use Rattle.css_token.specs.Productions.{begins_identifier};
 
 use crate::classes::{is_delim, is_name, is_quote, names_len, spaces_len};
@@ -18,10 +18,10 @@ pub(crate) enum Piece {
 }
 
 /// A token whose rest behind its opening has this length, or a bad one where that is 0.
-#[tactic(auto, unfolding(crate::specs::Fronts::closed))]
-fn closed(kind: Kind, opening: usize, len: usize) -> Piece
+#[tactic(auto, unfolding(crate::specs::Fronts::closed_piece))]
+fn closed_piece(kind: Kind, opening: usize, len: usize) -> Piece
     requires { opening + len < 2 ^ 64 }
-    ensures { result ≡ closed kind opening len }
+    ensures { result ≡ closed_piece kind opening len }
 {
     if len == 0 {
         Piece::Bad
@@ -34,9 +34,9 @@ fn closed(kind: Kind, opening: usize, len: usize) -> Piece
 }
 
 /// A character that stands alone.
-#[tactic(auto, unfolding(crate::specs::Fronts::mark))]
-fn mark(byte: u8) -> Piece
-    ensures { result ≡ mark byte }
+#[tactic(auto, unfolding(crate::specs::Fronts::lone_piece))]
+fn lone_piece(byte: u8) -> Piece
+    ensures { result ≡ lone_piece byte }
 {
     let kind = match byte {
         b':' => Kind::Colon,
@@ -55,11 +55,11 @@ fn mark(byte: u8) -> Piece
 }
 
 /// A number of this length, a percent or a dimension.
-#[tactic(auto, unfolding(crate::specs::Fronts::numeric))]
-fn numeric(at: u32, len: usize, bytes: &[u8]) -> Piece
+#[tactic(auto, unfolding(crate::specs::Fronts::numeric_piece))]
+fn numeric_piece(at: u32, len: usize, bytes: &[u8]) -> Piece
     requires within { len ≤ length bytes.now }
     requires most { at + length bytes.now ≤ 67108864 }
-    ensures { result ≡ numeric at len bytes.now }
+    ensures { result ≡ numeric_piece at len bytes.now }
 {
     if byte_at(bytes, len) == b'%' {
         return Piece::Token {
@@ -83,12 +83,12 @@ fn numeric(at: u32, len: usize, bytes: &[u8]) -> Piece
 }
 
 /// An identifier, a function or a url.
-#[tactic(auto, unfolding(crate::specs::Fronts::named))]
-fn named(bytes: &[u8]) -> Piece
-    ensures { result ≡ named bytes.now }
+#[tactic(auto, unfolding(crate::specs::Fronts::name_piece))]
+fn name_piece(bytes: &[u8]) -> Piece
+    ensures { result ≡ name_piece bytes.now }
 {
     if begins_url(bytes) {
-        return closed(Kind::Url, 4, url_len(after(bytes, 4)));
+        return closed_piece(Kind::Url, 4, url_len(after(bytes, 4)));
     }
     let len = identifier_len(bytes);
     if byte_at(bytes, len) == b'(' {
@@ -104,9 +104,9 @@ fn named(bytes: &[u8]) -> Piece
 }
 
 /// A hash, an at-word or a character that stands alone.
-#[tactic(auto, unfolding(crate::specs::Fronts::marked))]
-fn marked(bytes: &[u8]) -> Piece
-    ensures { result ≡ marked bytes.now }
+#[tactic(auto, unfolding(crate::specs::Fronts::mark_piece))]
+fn mark_piece(bytes: &[u8]) -> Piece
+    ensures { result ≡ mark_piece bytes.now }
 {
     let first = byte_at(bytes, 0);
     if first == b'#' && is_name(byte_at(bytes, 1)) {
@@ -121,7 +121,7 @@ fn marked(bytes: &[u8]) -> Piece
             len: 1 + identifier_len(after(bytes, 1)),
         };
     }
-    mark(first)
+    lone_piece(first)
 }
 
 /// The piece at the front of a text that begins at `at`.
@@ -138,7 +138,7 @@ pub(crate) fn piece_at(at: u32, bytes: &[u8]) -> Piece
         };
     }
     if is_quote(first) {
-        return closed(Kind::Text, 1, text_len(first, after(bytes, 1)));
+        return closed_piece(Kind::Text, 1, text_len(first, after(bytes, 1)));
     }
     if begins_comment(bytes) {
         let len = comment_len(after(bytes, 2));
@@ -150,11 +150,11 @@ pub(crate) fn piece_at(at: u32, bytes: &[u8]) -> Piece
     }
     let len = number_len(bytes);
     if len > 0 {
-        return numeric(at, len, bytes);
+        return numeric_piece(at, len, bytes);
     }
     if begins_identifier(bytes) {
-        named(bytes)
+        name_piece(bytes)
     } else {
-        marked(bytes)
+        mark_piece(bytes)
     }
 }
