@@ -131,7 +131,8 @@ impl Lines {
     /// carriage return directly before that.
     pub fn text(&self) -> &[u8]
         requires { IsSome self.now.text }
-        ensures { self.now.text ≡ Some result.now }
+        ensures text { self.now.text ≡ Some result.now }
+        ensures limit { length result.now ≤ MAX_LINE }
     {
         match self.state {
             State::Lent(span) => &self.buffer.bytes[span.from..span.to],

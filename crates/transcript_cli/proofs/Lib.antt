@@ -1,0 +1,4 @@
+pub mod Playing
+pub mod Readings
+pub mod Transcripts
+pub mod Worlds

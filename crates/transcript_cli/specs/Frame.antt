@@ -1,0 +1,67 @@
+-- Frames: a tick, its events, and a style change event (CSS Transitions Level 1, section 3).
+use Rattle.std.specs.Prelude.{ℕ, ◌+◌, ℤ, pos, Bool, true, false, List, [], ◌∷◌, if◌then◌else◌, Option, Some, None}
+use Rattle.std.specs.Option.{option_map_or}
+use Rattle.fix_num.specs.declared.units.Fix.{Fix}
+use Rattle.transition_start.specs.declared.matched.Match.{Match}
+use Rattle.transition_start.specs.declared.matched.Easing.TheVariants.{Linear}
+use Rattle.transition_start.specs.declared.transition.Running.{Running}
+use Rattle.transition_start.specs.declared.starting.Decision.{Decision}
+use Rattle.transition_start.specs.Decision.{Change, decision_of}
+use Rattle.transition_start.specs.Sampling.{sample_of}
+use Rattle.transcript_cli.specs.declared.declared.Declared.{Declared}
+use Rattle.transcript_cli.specs.declared.world.Entry.{Entry}
+use Rattle.transcript_cli.specs.declared.world.World.{World}
+use Rattle.transcript_cli.specs.Tick.{Event, events_at, ticked}
+
+-- the opacity at time t under these declarations and this transition
+abbrev pub opacity_at : Declared → Option Running → ℤ → Fix
+opacity_at declared running t = option_map_or (λ r. sample_of r t) running declared.opacity
+
+-- the matching item of opacity; with no transition declared its duration is 0, and its easing is never asked
+abbrev pub match_of : Declared → Match
+match_of declared = record { duration = declared.duration; delay = record { 0 = pos 0 }; easing = Linear }
+
+-- what the style change event looks at: the before-change style has the declarations of the previous event and the
+-- transition that runs, the after-change style those of now and no transition
+abbrev pub change_of : World → Change
+change_of w = record {
+  running = w.entry.running;
+  completed = w.entry.completed;
+  before = opacity_at w.entry.declared w.entry.running w.time.0;
+  after = w.style.opacity;
+  matched = Some (match_of w.style);
+  time = w.time.0;
+  generation = w.frames + 1;
+  position = 0;
+}
+
+-- the entry that it leaves
+abbrev pub restyled : World → Option Running → Decision → Entry
+restyled w running decision = record {
+  styled = true;
+  declared = w.style;
+  now = opacity_at w.style running w.time.0;
+  running = running;
+  completed = decision.completed;
+}
+
+-- an element that is new starts no transition
+abbrev pub entry_after : World → Entry
+entry_after w =
+    if w.entry.styled then restyled w (decision_of (change_of w)).running (decision_of (change_of w))
+    else record { styled = true; declared = w.style; now = w.style.opacity; running = None; completed = None }
+
+-- the world after a style change event: the frames are counted, and the element is restyled
+abbrev pub after_style_change : World → World
+after_style_change w = record w { frames = w.frames + 1; entry = option_map_or (λ n. entry_after w) w.root w.entry }
+
+abbrev pub after_tick_of : World → World
+after_tick_of w = record w { entry = ticked w.entry w.time.0 }
+
+-- the events of a frame
+abbrev pub events_of_frame : World → List Event
+events_of_frame w = events_at w.entry.running w.time.0
+
+-- the world after a frame
+unfoldable pub after_frame : World → World
+after_frame w = after_style_change (after_tick_of w)

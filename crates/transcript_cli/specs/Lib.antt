@@ -1,0 +1,16 @@
+pub mod Affix
+pub mod Command
+pub mod Exit
+pub mod Frame
+pub mod Line
+pub mod Number
+pub mod Play
+pub mod Refusal
+pub mod Replay
+pub mod Seen
+pub mod Sound
+pub mod Style
+pub mod Tick
+pub mod Transcript
+pub mod Words
+pub mod World

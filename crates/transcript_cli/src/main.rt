@@ -1,0 +1,43 @@
+//! Reads a script of edits and frames, restyles, and writes events and computed values.
+#![tactic(auto)]
+
+mod answer;
+mod arguments;
+mod command;
+mod declared;
+mod edit;
+mod event;
+mod frame;
+mod gate;
+mod lines;
+mod number;
+mod refusal;
+mod replay;
+mod status;
+mod style;
+mod words;
+mod world;
+
+use crate::arguments::words;
+use crate::gate::IdleGate;
+use crate::replay::run;
+use crate::status::Status;
+use std::process::ExitCode;
+use std::{env, io};
+use text_io::{StdSink, StdSource};
+
+fn main(rt: HostRuntime) -> ExitCode {
+    let alloc = rt.alloc();
+    let status = match words(&rt, alloc) {
+        Ok(words) => run(
+            &rt,
+            alloc,
+            &words,
+            &mut StdSource::new(rt.stdin()),
+            &mut StdSink::new(rt.stdout()),
+            &IdleGate,
+        ),
+        Err(status) => status,
+    };
+    ExitCode::from(status.number())
+}
