@@ -16,3 +16,6 @@ pub use sample::{phase_at, value_at};
 pub use starting::{Decision, decide};
 pub use subject::{PropertyId, Subject};
 pub use transition::{Completed, Gone, Phase, Running};
+
+#[cfg(test)]
+mod tests;
