@@ -2,6 +2,7 @@ pub mod Affix
 pub mod Command
 pub mod Exit
 pub mod Frame
+pub mod Laws
 pub mod Line
 pub mod Number
 pub mod Play
