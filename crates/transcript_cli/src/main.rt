@@ -15,6 +15,8 @@ mod refusal;
 mod replay;
 mod status;
 mod style;
+#[cfg(test)]
+mod tests;
 mod words;
 mod world;
 
