@@ -197,7 +197,8 @@ fn a_sink_without_room_ends_the_run(rt: HostRuntime) -> Result<(), Fail> {
         );
         let mut sink = MemSink::new(room, most, vec![in alloc; failing]?)?;
         assert_eq!(rt; replay_alone(alloc, &mut source, &mut sink), status);
-        assert_eq!(rt; sink.bytes(), &TRANSCRIPT.as_bytes()[..length]);
+        assert_eq!(rt; sink.bytes().len(), length);
+        assert!(rt; TRANSCRIPT.as_bytes().starts_with(sink.bytes()));
     }
     Ok(())
 }
