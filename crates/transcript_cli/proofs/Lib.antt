@@ -1,3 +1,4 @@
+pub mod ByParts
 pub mod Playing
 pub mod Readings
 pub mod Transcripts

@@ -1,0 +1,13 @@
+//! What the definitions say of every script, as laws.
+ghost use Rattle.std.specs.Prelude.{◌≡◌, ℕ, ◌+◌, ◌||◌, List, ◌++◌, length, Option};
+ghost use Rattle.transcript_cli.specs.declared.world.World.{World};
+ghost use Rattle.transcript_cli.specs.Transcript.{refuses_from, transcript_from, world_from};
+
+/// A transcript goes by parts: it is that of the first lines, and then that of the others from the world
+/// that the first leave; and a line is refused where one is in either part.
+pub fn transcript_by_parts()
+    ensures written { (w : World) (n : ℕ) (xs ys : List (Option (List ℕ)))
+        → transcript_from w n (xs ++ ys) ≡ transcript_from w n xs ++ transcript_from (world_from w n xs) (n + length xs) ys }
+    ensures refused { (w : World) (n : ℕ) (xs ys : List (Option (List ℕ)))
+        → refuses_from w n (xs ++ ys) ≡ (refuses_from w n xs || refuses_from (world_from w n xs) (n + length xs) ys) }
+{}
