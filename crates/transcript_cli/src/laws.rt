@@ -1,7 +1,7 @@
 //! What the definitions say of every script, as laws.
-ghost use Rattle.std.specs.Prelude.{◌≡◌, ℕ, ◌+◌, ◌||◌, List, ◌++◌, length, Option};
+ghost use Rattle.std.specs.Prelude.{◌≡◌, ℕ, ◌+◌, true, ◌||◌, List, ◌++◌, length, Option};
 ghost use Rattle.transcript_cli.specs.declared.world.World.{World};
-ghost use Rattle.transcript_cli.specs.Transcript.{refuses_from, transcript_from, world_from};
+ghost use Rattle.transcript_cli.specs.Transcript.{answer_of, refuses_from, transcript_from, world_from};
 
 /// A transcript goes by parts: it is that of the first lines, and then that of the others from the world
 /// that the first leave; and a line is refused where one is in either part.
@@ -10,4 +10,9 @@ pub fn transcript_by_parts()
         → transcript_from w n (xs ++ ys) ≡ transcript_from w n xs ++ transcript_from (world_from w n xs) (n + length xs) ys }
     ensures refused { (w : World) (n : ℕ) (xs ys : List (Option (List ℕ)))
         → refuses_from w n (xs ++ ys) ≡ (refuses_from w n xs || refuses_from (world_from w n xs) (n + length xs) ys) }
+{}
+
+/// A line that is refused changes nothing.
+pub fn refused_changes_nothing()
+    ensures { (w : World) (n : ℕ) (line : Option (List ℕ)) → (answer_of w n line).refused ≡ true → (answer_of w n line).world ≡ w }
 {}
