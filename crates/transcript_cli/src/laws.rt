@@ -1,7 +1,10 @@
 //! What the definitions say of every script, as laws.
-ghost use Rattle.std.specs.Prelude.{◌≡◌, ℕ, ◌+◌, true, ◌||◌, List, ◌++◌, length, Option};
+ghost use Rattle.std.specs.Prelude.{◌≡◌, ℕ, ◌+◌, true, ◌||◌, List, ◌++◌, length, flat_map, Option, Some};
 ghost use Rattle.transcript_cli.specs.declared.world.World.{World};
-ghost use Rattle.transcript_cli.specs.Transcript.{answer_of, refuses_from, transcript_from, world_from};
+ghost use Rattle.transcript_cli.specs.Command.{Frame};
+ghost use Rattle.transcript_cli.specs.Laws.{events_of_command};
+ghost use Rattle.transcript_cli.specs.Line.{command_of};
+ghost use Rattle.transcript_cli.specs.Transcript.{answer_of, event_line, refuses_from, transcript_from, world_from};
 
 /// A transcript goes by parts: it is that of the first lines, and then that of the others from the world
 /// that the first leave; and a line is refused where one is in either part.
@@ -15,4 +18,10 @@ pub fn transcript_by_parts()
 /// A line that is refused changes nothing.
 pub fn refused_changes_nothing()
     ensures { (w : World) (n : ℕ) (line : Option (List ℕ)) → (answer_of w n line).refused ≡ true → (answer_of w n line).world ≡ w }
+{}
+
+/// A frame writes the lines of its events, in order.
+pub fn events_are_written()
+    ensures { (w : World) (n k : ℕ) (line : List ℕ) → w.root ≡ Some k → command_of line ≡ Some Frame
+        → (answer_of w n (Some line)).piece ≡ flat_map (event_line k) (events_of_command w (command_of line)) }
 {}
