@@ -1,4 +1,5 @@
 pub mod ByParts
+pub mod LastFrame
 pub mod Playing
 pub mod Readings
 pub mod Transcripts

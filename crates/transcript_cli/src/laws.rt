@@ -1,8 +1,9 @@
 //! What the definitions say of every script, as laws.
-ghost use Rattle.std.specs.Prelude.{◌≡◌, ℕ, ◌+◌, true, ◌||◌, List, ◌++◌, length, flat_map, Option, Some};
+ghost use Rattle.std.specs.Prelude.{◌≡◌, ℕ, ◌+◌, true, ◌||◌, List, ◌++◌, length, flat_map, Option, Some, IsSome};
 ghost use Rattle.transcript_cli.specs.declared.world.World.{World};
 ghost use Rattle.transcript_cli.specs.Command.{Frame};
-ghost use Rattle.transcript_cli.specs.Laws.{events_of_command};
+ghost use Rattle.transcript_cli.specs.Frame.{after_frame};
+ghost use Rattle.transcript_cli.specs.Laws.{HasNoFrame, events_of_command, opacity_after_frame};
 ghost use Rattle.transcript_cli.specs.Line.{command_of};
 ghost use Rattle.transcript_cli.specs.Transcript.{answer_of, event_line, refuses_from, transcript_from, world_from};
 
@@ -24,4 +25,11 @@ pub fn refused_changes_nothing()
 pub fn events_are_written()
     ensures { (w : World) (n k : ℕ) (line : List ℕ) → w.root ≡ Some k → command_of line ≡ Some Frame
         → (answer_of w n (Some line)).piece ≡ flat_map (event_line k) (events_of_command w (command_of line)) }
+{}
+
+/// Until the next frame an element's opacity stays that at the time of the last one: the value of the
+/// transition that ran then, else the declared one.
+pub fn value_of_last_frame()
+    ensures { (w : World) (n : ℕ) (lines : List (Option (List ℕ))) → IsSome w.root → HasNoFrame lines
+        → (world_from (after_frame w) n lines).entry.now ≡ opacity_after_frame (after_frame w) }
 {}
