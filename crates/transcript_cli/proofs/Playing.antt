@@ -1,5 +1,5 @@
 -- How a run goes on by one line, and how it ends.
-use Rattle.std.proofs.Common.{◌≡◌, ℕ, ◌+◌, ◌-◌, ◌*◌, ◌^◌, ◌<◌, ◌≤◌, min, ◌∷◌, length-append, refl, ap, sym, ◌∙◌, subst, arith, List, [], ◌++◌, length, Bool, true, false, inl, inr}
+use Rattle.std.proofs.Common.{◌≡◌, ℕ, ◌+◌, ◌-◌, ◌^◌, ◌<◌, ◌≤◌, min, ◌∷◌, length-append, refl, ap, ◌∙◌, subst, arith, List, [], ◌++◌, length, Bool, true, false, inl, inr}
 use Rattle.std.specs.Prelude.{◌||◌, ◌⊎◌, Option, None, Some, IfSome}
 use Rattle.std.specs.Io.KnownBytes.{Appends, Consumes}
 use Rattle.text_io.specs.Causes.{Rose, RoseOrFull}
@@ -8,7 +8,7 @@ use Rattle.text_io.specs.Reader.{Reader, GivesLine, IsTaken, stream_of, steps_le
 use Rattle.text_io.specs.declared.limits.TheConstants.{MAX_INPUT}
 use Rattle.text_io.proofs.ToldLemmas.{told_then}
 use Rattle.transcript_cli.specs.declared.status.Status.{Status}
-use Rattle.transcript_cli.specs.declared.status.Status.TheVariants.{Done, Refused, Usage, TooMuch, ReadFault, WriteFault, NoMemory}
+use Rattle.transcript_cli.specs.declared.status.Status.TheVariants.{Done, Refused, TooMuch, ReadFault, WriteFault}
 use Rattle.transcript_cli.specs.declared.world.World.{World}
 use Rattle.transcript_cli.specs.Play.{AnswersLine, Continues, Gave, HasEnd, IsPlaying}
 use Rattle.transcript_cli.specs.Replay.{Ends, IsFinished, IsReplay}

@@ -1,8 +1,7 @@
 -- What a number that was read lies within.
-use Rattle.std.proofs.Common.{◌≡◌, ℕ, ◌≤◌, refl, ap, sym, ◌∙◌, subst, arith}
-use Rattle.std.specs.Prelude.{ℤ, unsigned_abs, nat_le, Bool, true, false, if◌then◌else◌, List, Option, Some, None, Result, Ok, Err, option_map, unwrap_or}
+use Rattle.std.proofs.Common.{◌≡◌, ℕ, ◌≤◌, refl, subst, arith}
+use Rattle.std.specs.Prelude.{ℤ, unsigned_abs, nat_le, Bool, true, false, if◌then◌else◌, List, Option, Some, None, Ok, Err, option_map, unwrap_or}
 use Rattle.std.proofs.lemmas.Bool.Decides.{nat_tests}
-use Rattle.fix_num.specs.declared.decimal.NumFault.{NumFault}
 use Rattle.fix_num.specs.declared.decimal.NumFault.TheVariants.{Syntax, TooFine, TooLarge}
 use Rattle.fix_num.specs.Decimal.{Decimal, decimal_of, reading_of, exact_reading, within, is_exact, signed, units_of}
 

@@ -1,7 +1,6 @@
 -- What edits and ticks keep of a world.
-use Rattle.std.proofs.Common.{◌≡◌, ℕ, refl, ap, sym, ◌∙◌, subst, arith, [], ◌∷◌, List, map, nat_eq}
-use Rattle.std.specs.Int.{int_min, int_max}
-use Rattle.std.specs.Prelude.{ℤ, pos, ◌-ℤ◌, Bool, true, false, is_some, if◌then◌else◌, IfSome, IsSomeAnd, Option, Some, None, ◌==◌}
+use Rattle.std.proofs.Common.{◌≡◌, ℕ, refl, ap, ◌∙◌, List, map}
+use Rattle.std.specs.Prelude.{Bool, true, false, is_some, if◌then◌else◌, IfSome, IsSomeAnd, Option, Some, None, ◌==◌}
 use Rattle.fix_num.specs.declared.units.Fix.{Fix}
 use Rattle.doc_tree.specs.Element.{Element, Document}
 use Rattle.doc_tree.specs.Change.{with_style, restyled}

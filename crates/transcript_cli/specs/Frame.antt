@@ -1,5 +1,5 @@
 -- Frames: a tick, its events, and a style change event (CSS Transitions Level 1, section 3).
-use Rattle.std.specs.Prelude.{ℕ, ◌+◌, ℤ, pos, Bool, true, false, List, [], ◌∷◌, if◌then◌else◌, Option, Some, None}
+use Rattle.std.specs.Prelude.{◌+◌, ℤ, pos, true, List, if◌then◌else◌, Option, Some, None}
 use Rattle.std.specs.Option.{option_map_or}
 use Rattle.fix_num.specs.declared.units.Fix.{Fix}
 use Rattle.transition_start.specs.declared.matched.Match.{Match}

@@ -1,16 +1,14 @@
 -- What a script's transcript says of a transition, in the words of the standard.
-use Rattle.std.specs.Prelude.{◌≡◌, ◌⊎◌, ℕ, ◌+◌, ◌<◌, ◌≤◌, ℤ, ◌<ℤ◌, Bool, true, false, nat_eq, List, [], ◌∷◌, ◌++◌, filter, Option, Some, None, IsSome, option_and_then, ⊤}
+use Rattle.std.specs.Prelude.{◌≡◌, ◌⊎◌, ℕ, ◌+◌, ◌<◌, ◌<ℤ◌, nat_eq, List, [], ◌∷◌, ◌++◌, filter, Option, Some, None, option_and_then, ⊤}
 use Rattle.fix_num.specs.declared.units.Fix.{Fix}
 use Rattle.transition_start.specs.declared.transition.Running.{Running}
 use Rattle.transcript_cli.specs.declared.event.EventKind.TheVariants.{Run, Start, End}
 use Rattle.transcript_cli.specs.declared.world.World.{World}
 use Rattle.transcript_cli.specs.Command.{Command, Blank, Add, Style, At, Frame, Get}
-use Rattle.transcript_cli.specs.Frame.{after_frame, events_of_frame, opacity_at}
+use Rattle.transcript_cli.specs.Frame.{events_of_frame, opacity_at}
 use Rattle.transcript_cli.specs.Line.{command_of}
-use Rattle.transcript_cli.specs.Sound.{IsSound}
 use Rattle.transcript_cli.specs.Tick.{Event, event_of, rank_of}
-use Rattle.transcript_cli.specs.Transcript.{answer_of, world_from}
-use Rattle.transcript_cli.specs.World.{new_world}
+use Rattle.transcript_cli.specs.Transcript.{answer_of}
 
 -- ---- the events of a transition
 

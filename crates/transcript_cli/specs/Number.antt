@@ -1,5 +1,5 @@
 -- Numbers that aren't negative.
-use Rattle.std.specs.Prelude.{ℕ, ℤ, pos, negsuc, Option, Some, None, Result, option_and_then}
+use Rattle.std.specs.Prelude.{ℤ, pos, negsuc, Option, Some, None, Result, option_and_then}
 use Rattle.std.specs.Result.{result_ok}
 use Rattle.fix_num.specs.declared.decimal.NumFault.{NumFault}
 

@@ -1,6 +1,6 @@
 -- Ticks: the phase of each transition at a time is compared with the phase last seen, and gives events (Web Animations
 -- Level 1, section 4.4.5 "update animations and send events"; CSS Transitions Level 1, section 6).
-use Rattle.std.specs.Prelude.{◌≡◌, ℕ, ℤ, pos, ◌-ℤ◌, ◌<ℤ◌, ◌⊎◌, int_le, List, [], ◌∷◌, map, if◌then◌else◌, Option, Some, None, ⊤}
+use Rattle.std.specs.Prelude.{ℕ, ℤ, pos, ◌-ℤ◌, int_le, List, [], ◌∷◌, map, if◌then◌else◌, Option, Some, None}
 use Rattle.std.specs.Int.{int_min, int_max}
 use Rattle.transition_start.specs.declared.transition.Running.{Running}
 use Rattle.transition_start.specs.declared.transition.Phase.{Phase}

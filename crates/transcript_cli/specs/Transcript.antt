@@ -1,5 +1,5 @@
 -- The transcript of a script.
-use Rattle.std.specs.Prelude.{◌≡◌, ℕ, ◌+◌, ℤ, Bool, true, false, ◌||◌, List, [], ◌∷◌, ◌++◌, flat_map, is_some, Option, Some, None, option_and_then, codes, decimal, if◌then◌else◌}
+use Rattle.std.specs.Prelude.{ℕ, ◌+◌, ℤ, Bool, true, false, ◌||◌, List, [], ◌∷◌, ◌++◌, flat_map, Option, Some, None, option_and_then, codes, decimal}
 use Rattle.std.specs.Option.{option_map_or}
 use Rattle.fix_num.specs.Print.{text_of}
 use Rattle.text_io.specs.Lines.{lines_of}

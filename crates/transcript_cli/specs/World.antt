@@ -1,11 +1,9 @@
 -- The world that a script edits, and its edits.
-use Rattle.std.specs.Prelude.{◌≡◌, ℕ, ◌+◌, ◌^◌, ℤ, pos, ◌+ℤ◌, int_lt, Bool, true, false, not, List, [], ◌∷◌, length, nat_lt, is_some, if◌then◌else◌, Option, Some, None, option_map}
-use Rattle.doc_tree.specs.Element.{Element, Document, is_in}
+use Rattle.std.specs.Prelude.{pos, int_lt, false, not, [], ◌∷◌, length, nat_lt, is_some, if◌then◌else◌, Option, Some, None}
+use Rattle.doc_tree.specs.Element.{is_in}
 use Rattle.doc_tree.specs.Change.{new_element, with_style, empty_document}
-use Rattle.transition_start.specs.declared.transition.Running.{Running}
 use Rattle.transcript_cli.specs.declared.refusal.Refusal.{Refusal}
 use Rattle.transcript_cli.specs.declared.refusal.Refusal.TheVariants.{Syntax, UnknownNode, NoStyle}
-use Rattle.transcript_cli.specs.declared.declared.Declared.{Declared}
 use Rattle.transcript_cli.specs.declared.world.Entry.{Entry}
 use Rattle.transcript_cli.specs.declared.world.World.{World}
 use Rattle.transcript_cli.specs.Command.{Command, Blank, Add, Style, At, Frame, Get}

@@ -9,6 +9,7 @@ mod edit;
 mod event;
 mod frame;
 mod gate;
+mod laws;
 mod lines;
 mod number;
 mod refusal;

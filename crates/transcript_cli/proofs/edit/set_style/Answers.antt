@@ -1,6 +1,3 @@
-use Rattle.std.proofs.Common.{subst}
-use Rattle.doc_tree.specs.Element.{Document}
-use Rattle.transcript_cli.specs.Sound.{IsRootOf}
 use Rattle.transcript_cli.proofs.Worlds.{root_restyled, none_runs}
 use Rattle.transcript_cli.proofs.edit.set_style.Goals as goal
 

@@ -1,5 +1,4 @@
 use Rattle.std.proofs.Common.{sym, arith, rules}
-use Rattle.std.specs.Prelude.{◌-ℤ◌}
 use Rattle.std.specs.Int.{w64}
 use Rattle.std.proofs.lemmas.Int.{ints, to_z-of_z}
 use mir.Val.{SFits}

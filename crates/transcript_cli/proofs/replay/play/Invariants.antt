@@ -1,7 +1,5 @@
-use Rattle.std.proofs.Common.{◌≡◌}
 use Rattle.text_io.specs.Reader.{steps_left}
 use Rattle.transcript_cli.specs.Play.{IsPlaying}
-use Rattle.transcript_cli.specs.Replay.{Ends}
 use Rattle.transcript_cli.proofs.replay.play.Given as goal
 
 -- what was written so far, and then the transcript of what is left, is that of the script
