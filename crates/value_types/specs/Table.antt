@@ -1,6 +1,6 @@
 -- The table of properties (the "Value", "Initial" and "Inherited" lines of their definitions in CSS Backgrounds 3, CSS Box 3,
 -- CSS Color 4, CSS Display 3, CSS Fonts 4, CSS Position 3, CSS Sizing 3, CSS Text 3, CSS Transforms 2 and CSS 2.2).
-use Rattle.std.specs.Prelude.{◌≡◌, ℕ, ℤ, pos, Bool, true, false}
+use Rattle.std.specs.Prelude.{ℕ, pos, Bool, true, false}
 use Rattle.fix_num.specs.declared.units.Fix.{Fix}
 use Rattle.value_types.specs.declared.property.PropertyId.{PropertyId}
 use Rattle.value_types.specs.declared.property.PropertyId.TheVariants as property

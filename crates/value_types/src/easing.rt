@@ -1,5 +1,8 @@
 //! Easing functions.
 
+ghost use Rattle.std.specs.Prelude.{◌≡◌};
+ghost use Rattle.value_types.specs.Timing.{ease};
+
 /// An easing function (CSS Easing 1).
 #[derive(Clone, Copy, Debug, PartialEq, Eq)]
 pub enum Easing {
@@ -18,4 +21,18 @@ pub enum Jump {
     End,
     Both,
     Nowhere,
+}
+
+impl Easing {
+    /// The keyword `ease` (CSS Easing 1, section 2.2).
+    pub fn ease() -> Easing
+        ensures { result ≡ ease }
+    {
+        Easing::Cubic {
+            x1: 250,
+            y1: 100,
+            x2: 250,
+            y2: 1000,
+        }
+    }
 }
