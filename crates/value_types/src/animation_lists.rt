@@ -38,6 +38,7 @@ impl Model for AnimationLists {
 }
 
 impl AnimationLists {
+    /// These lists. Takes no memory.
     pub fn new(
         names: Items<Option<Name>>,
         durations: Items<Micros>,
@@ -86,6 +87,7 @@ impl AnimationLists {
         })
     }
 
+    /// The same lists again.
     pub fn copy(&self, alloc: Global) -> Result<Self, AllocError>
         ensures { IfOk result (λ lists. lists ≡ self.now) }
     {

@@ -35,6 +35,7 @@ impl Frames {
         Frames { frames }
     }
 
+    /// The frames, in their order.
     pub fn as_slice(&self) -> &[Frame]
         ensures value { result.now ≡ self.now }
         ensures bounds { IsFrames result.now }
@@ -42,6 +43,7 @@ impl Frames {
         self.frames.as_slice()
     }
 
+    /// The same frames again.
     pub fn copy(&self, alloc: Global) -> Result<Frames, AllocError>
         ensures { IfOk result (λ frames. frames ≡ self.now) }
     {

@@ -47,18 +47,21 @@ impl<T> Items<T> {
         items
     }
 
+    /// The items.
     pub fn as_slice(&self) -> &[T]
         ensures { result.now ≡ self.now }
     {
         self.items.as_slice()
     }
 
+    /// How many items there are.
     pub fn len(&self) -> usize
         ensures { result ≡ length self.now }
     {
         self.items.len()
     }
 
+    /// The item at `i`, from 0; `None` past the last.
     pub fn get(&self, i: usize) -> Option<&T>
         ensures { option_copied result ≡ slice_get self.now i }
     {
@@ -87,6 +90,7 @@ impl<T: Drop> Items<T> {
 }
 
 impl<T: Copy> Items<T> {
+    /// A list of the same items.
     pub fn copy(&self, alloc: Global) -> Result<Items<T>, AllocError>
         ensures { IfOk result (λ list. list ≡ self.now) }
     {

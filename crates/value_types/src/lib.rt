@@ -15,6 +15,8 @@ mod name;
 mod property;
 mod shorthand;
 mod table;
+#[cfg(test)]
+mod tests;
 mod timing;
 mod transition_lists;
 mod value;

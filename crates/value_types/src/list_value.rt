@@ -45,6 +45,7 @@ pub enum ListValue {
 }
 
 impl ListValue {
+    /// The same value again.
     pub fn copy(&self, alloc: Global) -> Result<ListValue, AllocError>
         ensures { IfOk result (λ copy. copy ≡ self.now) }
     {

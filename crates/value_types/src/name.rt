@@ -22,6 +22,7 @@ impl Model for Name {
 }
 
 impl Name {
+    /// The name of these bytes.
     pub fn from_bytes(alloc: Global, bytes: &[u8]) -> Result<Name, AllocError>
         ensures { IfOk result (λ n. n ≡ bytes.now) }
     {
@@ -30,18 +31,21 @@ impl Name {
         })
     }
 
+    /// The bytes.
     pub fn as_bytes(&self) -> &[u8]
         ensures { result.now ≡ self.now }
     {
         self.bytes.as_slice()
     }
 
+    /// A name of the same bytes.
     pub fn copy(&self, alloc: Global) -> Result<Name, AllocError>
         ensures { IfOk result (λ n. n ≡ self.now) }
     {
         Name::from_bytes(alloc, self.as_bytes())
     }
 
+    /// Whether the two names are the same, byte for byte.
     pub fn is_same(&self, other: &Name) -> bool
         ensures { IsTrue result ↔ (self.now ≡ other.now) }
     {

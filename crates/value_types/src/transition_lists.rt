@@ -33,6 +33,7 @@ impl Model for TransitionLists {
 }
 
 impl TransitionLists {
+    /// These lists. Takes no memory.
     pub fn new(
         items: Items<PropertyItem>,
         durations: Items<Micros>,
@@ -64,6 +65,7 @@ impl TransitionLists {
         })
     }
 
+    /// The same lists again.
     pub fn copy(&self, alloc: Global) -> Result<Self, AllocError>
         ensures { IfOk result (λ lists. lists ≡ self.now) }
     {
