@@ -92,14 +92,17 @@ abbrev pub CountsUp : ℕ → List PropertyId → Type 0
 CountsUp k [] = Unit {0}
 CountsUp k (p ∷ ps) = (number_of p ≡ k) × CountsUp (k + 1) ps
 
+-- so the n-th of them has the number k + n
 pub number_at : (k : ℕ) (ps : List PropertyId) (n : ℕ) (p : PropertyId) → CountsUp k ps → slice_get ps n ≡ Some p → number_of p ≡ k + n
 number_at k [] n p counts is = cc
 number_at k (q ∷ ps) zero p counts is = let e : q ≡ p = cc in ap number_of (sym e) ∙ counts.0 ∙ omega arith
 number_at k (q ∷ ps) (suc n) p counts is = number_at (k + 1) ps n p counts.1 is ∙ omega arith
 
+-- the numbers of all properties count up from 0
 pub counts_up : CountsUp 0 all_properties
 counts_up = (refl, (refl, (refl, (refl, (refl, (refl, (refl, (refl, (refl, (refl, (refl, (refl, (refl, (refl, (refl, (refl, (refl, (refl, (refl, (refl, (refl, (refl, (refl, (refl, tt))))))))))))))))))))))))
 
+-- one step of `find`: y, where it passes its test, or what the rest gives
 abbrev passes_at : {X : Type 0} (test : X → Bool) (y : X) (rest : Option X) (x : X) (b : Bool) → test y ≡ b → cond b (Some y) rest ≡ Some x
     → (rest ≡ Some x → test x ≡ true) → test x ≡ true
 passes_at test y rest x true passes found later = let e : y ≡ x = cc in ap test (sym e) ∙ passes

@@ -15,48 +15,58 @@ use Rattle.value_types.specs.declared.value.Display.TheVariants.{Inline}
 
 -- ---- the kinds of values that a row names
 
+-- colour
 abbrev pub of_color : ValueKind → Bool
 of_color kind.Color = true
 of_color _ = false
 
+-- a keyword of display
 abbrev pub of_display : ValueKind → Bool
 of_display kind.Display = true
 of_display _ = false
 
+-- visible, hidden, collapse
 abbrev pub of_visibility : ValueKind → Bool
 of_visibility kind.Visibility = true
 of_visibility _ = false
 
+-- length, normal
 abbrev pub of_length_normal : ValueKind → Bool
 of_length_normal kind.Length = true
 of_length_normal kind.Normal = true
 of_length_normal _ = false
 
+-- number, percent
 abbrev pub of_number_percent : ValueKind → Bool
 of_number_percent kind.Number = true
 of_number_percent kind.Percent = true
 of_number_percent _ = false
 
+-- none, angle
 abbrev pub of_none_angle : ValueKind → Bool
 of_none_angle kind.Absent = true
 of_none_angle kind.Angle = true
 of_none_angle _ = false
 
+-- none, one or two of length and percent
 abbrev pub of_none_pair : ValueKind → Bool
 of_none_pair kind.Absent = true
 of_none_pair kind.Pair = true
 of_none_pair _ = false
 
+-- integer, auto
 abbrev pub of_integer_auto : ValueKind → Bool
 of_integer_auto kind.Int = true
 of_integer_auto kind.Auto = true
 of_integer_auto _ = false
 
+-- length, percent
 abbrev pub of_length_percent : ValueKind → Bool
 of_length_percent kind.Length = true
 of_length_percent kind.Percent = true
 of_length_percent _ = false
 
+-- length, percent, auto
 abbrev pub of_length_percent_auto : ValueKind → Bool
 of_length_percent_auto kind.Length = true
 of_length_percent_auto kind.Percent = true
@@ -156,6 +166,7 @@ keeps_percent p = takes p kind.Percent
 abbrev pub fix : ℕ → Fix
 fix n = record { 0 = pos n }
 
+-- a length of so many millionths of a pixel, with no percent
 abbrev pub pixels : ℕ → Value
 pixels n = value.Length (fix n) (fix 0)
 

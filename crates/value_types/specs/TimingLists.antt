@@ -54,19 +54,38 @@ pub record IsAnimationValues (v : AnimationValues) : Type 0 where
   pub fills : 0 < length v.fills
   pub states : 0 < length v.states
 
+-- the four lists together
+abbrev pub transition_values : List PropertyItem → List Micros → List Micros → List Easing → TransitionValues
+transition_values items durations delays easings =
+    record { items = items; durations = durations; delays = delays; easings = easings }
+
+-- the eight lists together
+abbrev pub animation_values : List (Option (List ℕ)) → List Micros → List Micros → List Easing → List Count → List Direction → List Fill → List PlayState → AnimationValues
+animation_values names durations delays easings counts directions fills states =
+    record {
+      names = names;
+      durations = durations;
+      delays = delays;
+      easings = easings;
+      counts = counts;
+      directions = directions;
+      fills = fills;
+      states = states;
+    }
+
+-- 0s
+abbrev pub no_time : Micros
+no_time = record { 0 = pos 0 }
+
+-- an iteration count of 1
+abbrev pub once : Count
+once = Times (record { 0 = pos 1000000 })
+
 -- the initial values: all, 0s, 0s, ease
 abbrev pub initial_transitions : TransitionValues
-initial_transitions = record { items = item.All ∷ []; durations = record { 0 = pos 0 } ∷ []; delays = record { 0 = pos 0 } ∷ []; easings = ease ∷ [] }
+initial_transitions = transition_values (item.All ∷ []) (no_time ∷ []) (no_time ∷ []) (ease ∷ [])
 
 -- the initial values: none, 0s, 0s, ease, 1, normal, none, running
 abbrev pub initial_animations : AnimationValues
-initial_animations = record {
-  names = None ∷ [];
-  durations = record { 0 = pos 0 } ∷ [];
-  delays = record { 0 = pos 0 } ∷ [];
-  easings = ease ∷ [];
-  counts = Times (record { 0 = pos 1000000 }) ∷ [];
-  directions = Normal ∷ [];
-  fills = Nothing ∷ [];
-  states = Running ∷ [];
-}
+initial_animations =
+    animation_values (None ∷ []) (no_time ∷ []) (no_time ∷ []) (ease ∷ []) (once ∷ []) (Normal ∷ []) (Nothing ∷ []) (Running ∷ [])

@@ -2,7 +2,7 @@
 
 ghost use Rattle.std.specs.Prelude.{◌≡◌, ◌<◌, length, IfOk};
 ghost use Rattle.value_types.specs.Timing.{IsCount, IsDelay, IsDuration, IsEasing};
-ghost use Rattle.value_types.specs.TimingLists.{IsListOf, initial_animations};
+ghost use Rattle.value_types.specs.TimingLists.{IsListOf, initial_animations, animation_values};
 
 use crate::easing::Easing;
 use crate::items::Items;
@@ -28,13 +28,13 @@ pub struct AnimationLists {
 }
 
 impl Model for AnimationLists {
-    ghost use Rattle.value_types.specs.TimingLists.{AnimationValues, IsAnimationValues};
+    ghost use Rattle.value_types.specs.TimingLists.{AnimationValues, IsAnimationValues, animation_values};
 
     ghost Value = { AnimationValues };
 
-    ghost view = { λ l. record { names = l.names; durations = l.durations; delays = l.delays; easings = l.easings; counts = l.counts; directions = l.directions; fills = l.fills; states = l.states } };
+    ghost view = { λ l. animation_values l.names l.durations l.delays l.easings l.counts l.directions l.fills l.states };
 
-    ghost invariant = { λ l. IsAnimationValues (record { names = l.names; durations = l.durations; delays = l.delays; easings = l.easings; counts = l.counts; directions = l.directions; fills = l.fills; states = l.states }) };
+    ghost invariant = { λ l. IsAnimationValues (animation_values l.names l.durations l.delays l.easings l.counts l.directions l.fills l.states) };
 }
 
 impl AnimationLists {
@@ -57,7 +57,7 @@ impl AnimationLists {
         requires directions { 0 < length directions }
         requires fills { 0 < length fills }
         requires states { 0 < length states }
-        ensures { result ≡ record { names = names; durations = durations; delays = delays; easings = easings; counts = counts; directions = directions; fills = fills; states = states } }
+        ensures { result ≡ animation_values names durations delays easings counts directions fills states }
     {
         AnimationLists {
             names,

@@ -2,7 +2,7 @@
 
 ghost use Rattle.std.specs.Prelude.{◌≡◌, IfOk};
 ghost use Rattle.value_types.specs.Timing.{IsDelay, IsDuration, IsEasing};
-ghost use Rattle.value_types.specs.TimingLists.{IsListOf, initial_transitions};
+ghost use Rattle.value_types.specs.TimingLists.{IsListOf, initial_transitions, transition_values};
 
 use crate::easing::Easing;
 use crate::items::Items;
@@ -23,13 +23,13 @@ pub struct TransitionLists {
 }
 
 impl Model for TransitionLists {
-    ghost use Rattle.value_types.specs.TimingLists.{TransitionValues, IsTransitionValues};
+    ghost use Rattle.value_types.specs.TimingLists.{TransitionValues, IsTransitionValues, transition_values};
 
     ghost Value = { TransitionValues };
 
-    ghost view = { λ l. record { items = l.items; durations = l.durations; delays = l.delays; easings = l.easings } };
+    ghost view = { λ l. transition_values l.items l.durations l.delays l.easings };
 
-    ghost invariant = { λ l. IsTransitionValues (record { items = l.items; durations = l.durations; delays = l.delays; easings = l.easings }) };
+    ghost invariant = { λ l. IsTransitionValues (transition_values l.items l.durations l.delays l.easings) };
 }
 
 impl TransitionLists {
@@ -43,7 +43,7 @@ impl TransitionLists {
         requires durations { IsListOf IsDuration durations }
         requires delays { IsListOf IsDelay delays }
         requires easings { IsListOf IsEasing easings }
-        ensures { result ≡ record { items = items; durations = durations; delays = delays; easings = easings } }
+        ensures { result ≡ transition_values items durations delays easings }
     {
         TransitionLists {
             items,
