@@ -103,7 +103,7 @@ pub counts_up : CountsUp 0 all_properties
 counts_up = (refl, (refl, (refl, (refl, (refl, (refl, (refl, (refl, (refl, (refl, (refl, (refl, (refl, (refl, (refl, (refl, (refl, (refl, (refl, (refl, (refl, (refl, (refl, (refl, tt))))))))))))))))))))))))
 
 -- one step of `find`: y, where it passes its test, or what the rest gives
-abbrev passes_at : {X : Type 0} (test : X → Bool) (y : X) (rest : Option X) (x : X) (b : Bool) → test y ≡ b → cond b (Some y) rest ≡ Some x
+passes_at : {X : Type 0} (test : X → Bool) (y : X) (rest : Option X) (x : X) (b : Bool) → test y ≡ b → cond b (Some y) rest ≡ Some x
     → (rest ≡ Some x → test x ≡ true) → test x ≡ true
 passes_at test y rest x true passes found later = let e : y ≡ x = cc in ap test (sym e) ∙ passes
 passes_at test y rest x false fails found later = later found

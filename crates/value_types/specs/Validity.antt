@@ -22,6 +22,7 @@ use Rattle.value_types.specs.Table.{takes, is_inherited, keeps_percent, range_of
 abbrev pub IsWithinLimit : Fix → Type 0
 IsWithinLimit n = unsigned_abs n.0 ≤ 10 ^ 12
 
+-- the number lies in the range
 abbrev pub IsInRange : ValueRange → Fix → Type 0
 IsInRange All n = ⊤
 IsInRange NotNegative n = pos 0 ≤ℤ n.0
@@ -34,7 +35,7 @@ IsInteger i = unsigned_abs i ≤ 2147483647
 
 -- an alpha from 0 to 1
 abbrev pub IsAlpha : Fix → Type 0
-IsAlpha a = (pos 0 ≤ℤ a.0) × (a.0 ≤ℤ pos (10 ^ 6))
+IsAlpha a = IsInRange ZeroToOne a
 
 -- ---- computed values
 
