@@ -1,10 +1,17 @@
+ghost use Rattle.std.specs.Prelude.{◌^◌, ◌≤◌, unsigned_abs};
+ghost use Rattle.transition_start.specs.Bounds.{IsKept, IsMatch, IsTime};
+
 use super::*;
 use fix_num::{Bill, Fix, Micros};
 use std::test::Fail;
 
 const SECOND: Micros = Micros(1_000_000);
 
-fn item(duration: Micros, delay: Micros) -> Match {
+fn item(duration: Micros, delay: Micros) -> Match
+    requires duration { IsTime duration.0 }
+    requires delay { unsigned_abs delay.0 ≤ 10 ^ 15 }
+    ensures { IsMatch result }
+{
     Match {
         duration,
         delay,
@@ -12,7 +19,9 @@ fn item(duration: Micros, delay: Micros) -> Match {
     }
 }
 
-fn from_0_to_1() -> Running {
+fn from_0_to_1() -> Running
+    ensures { IsKept result }
+{
     Running {
         from: Fix(0),
         to: Fix(1_000_000),
