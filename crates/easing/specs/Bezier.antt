@@ -14,11 +14,11 @@ pub record IsUnitCoordinate (v : ℤ) : Type 0 where
 abbrev pub parts : ℕ
 parts = 2 ^ 20
 
--- what a coordinate counts as 1
+-- coordinates of points of the curve are counted in units of which this many are 1
 abbrev pub whole : ℕ
 whole = 1000 * parts ^ 3
 
--- a coordinate of the point at parameter k, from those of the inner control points: a sum by Bernstein's polynomials
+-- a coordinate of the point at parameter k, from those of the inner control points; the outer ones have 0 and 1000
 abbrev pub coordinate : ℤ → ℤ → ℕ → ℤ
 coordinate first second k =
     let rest = parts - k in

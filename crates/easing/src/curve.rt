@@ -9,7 +9,7 @@ use fix_num::Bill;
 /// A curve's parameter is counted in parts, 0 to this many.
 const PARTS: u32 = 1 << 20;
 
-/// What a coordinate counts as 1.
+/// A coordinate of 1: a thousand thousandths times the cube of `PARTS`.
 const WHOLE: i128 = 1000 << 60;
 
 /// The output of the curve through the control points `(x1, y1)` and `(x2, y2)` at the input `num / den`.
