@@ -1,0 +1,5 @@
+pub mod Bezier
+pub mod Billionths
+pub mod Easings
+pub mod Greatest
+pub mod Stepping
