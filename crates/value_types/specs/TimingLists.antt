@@ -1,0 +1,72 @@
+-- The timing lists of an element (CSS Transitions 1, section 2; CSS Animations 1, section 3).
+use Rattle.std.specs.Prelude.{ℕ, ◌<◌, List, [], ◌∷◌, length, All, pos, Option, None}
+use Rattle.fix_num.specs.declared.units.Micros.{Micros}
+use Rattle.value_types.specs.declared.easing.Easing.{Easing}
+use Rattle.value_types.specs.declared.shorthand.PropertyItem.{PropertyItem}
+use Rattle.value_types.specs.declared.shorthand.PropertyItem.TheVariants as item
+use Rattle.value_types.specs.declared.timing.Count.{Count}
+use Rattle.value_types.specs.declared.timing.Count.TheVariants.{Times}
+use Rattle.value_types.specs.declared.timing.Direction.{Direction}
+use Rattle.value_types.specs.declared.timing.Direction.TheVariants.{Normal}
+use Rattle.value_types.specs.declared.timing.Fill.{Fill}
+use Rattle.value_types.specs.declared.timing.Fill.TheVariants.{Nothing}
+use Rattle.value_types.specs.declared.timing.PlayState.{PlayState}
+use Rattle.value_types.specs.declared.timing.PlayState.TheVariants.{Running}
+use Rattle.value_types.specs.Timing.{IsEasing, IsDuration, IsDelay, IsCount, ease}
+
+-- the four lists that time transitions; no item of transition-property is the keyword none
+pub record TransitionValues : Type 0 where
+  pub items : List PropertyItem
+  pub durations : List Micros
+  pub delays : List Micros
+  pub easings : List Easing
+
+-- the eight lists that time animations; no name is the keyword none
+pub record AnimationValues : Type 0 where
+  pub names : List (Option (List ℕ))
+  pub durations : List Micros
+  pub delays : List Micros
+  pub easings : List Easing
+  pub counts : List Count
+  pub directions : List Direction
+  pub fills : List Fill
+  pub states : List PlayState
+
+-- a list of such items, at least one
+pub record IsListOf {T : Type 0} (P : T → Type 0) (xs : List T) : Type 0 where
+  pub some : 0 < length xs
+  pub each : All P xs
+
+-- the lists keep their bounds, and only that of properties may be empty
+pub record IsTransitionValues (v : TransitionValues) : Type 0 where
+  pub durations : IsListOf IsDuration v.durations
+  pub delays : IsListOf IsDelay v.delays
+  pub easings : IsListOf IsEasing v.easings
+
+-- the lists keep their bounds, and none is empty
+pub record IsAnimationValues (v : AnimationValues) : Type 0 where
+  pub names : 0 < length v.names
+  pub durations : IsListOf IsDuration v.durations
+  pub delays : IsListOf IsDelay v.delays
+  pub easings : IsListOf IsEasing v.easings
+  pub counts : IsListOf IsCount v.counts
+  pub directions : 0 < length v.directions
+  pub fills : 0 < length v.fills
+  pub states : 0 < length v.states
+
+-- the initial values: all, 0s, 0s, ease
+abbrev pub initial_transitions : TransitionValues
+initial_transitions = record { items = item.All ∷ []; durations = record { 0 = pos 0 } ∷ []; delays = record { 0 = pos 0 } ∷ []; easings = ease ∷ [] }
+
+-- the initial values: none, 0s, 0s, ease, 1, normal, none, running
+abbrev pub initial_animations : AnimationValues
+initial_animations = record {
+  names = None ∷ [];
+  durations = record { 0 = pos 0 } ∷ [];
+  delays = record { 0 = pos 0 } ∷ [];
+  easings = ease ∷ [];
+  counts = Times (record { 0 = pos 1000000 }) ∷ [];
+  directions = Normal ∷ [];
+  fills = Nothing ∷ [];
+  states = Running ∷ [];
+}

@@ -1,0 +1,17 @@
+//! A frame of a keyframes rule.
+
+use crate::declared::Declared;
+use crate::easing::Easing;
+use crate::property::PropertyId;
+use fix_num::Bill;
+
+/// What a keyframes rule gives one property at one offset (CSS Animations 1, section 4).
+#[derive(Clone, Copy, Debug, PartialEq, Eq)]
+pub struct Frame {
+    /// 0 to 10^9.
+    pub offset: Bill,
+    pub property: PropertyId,
+    pub declared: Declared,
+    /// The easing up to the property's next frame; none where the block names none.
+    pub easing: Option<Easing>,
+}

@@ -1,0 +1,64 @@
+//! Declared values of the timing lists.
+
+ghost use Rattle.std.specs.Prelude.{◌≡◌, IfOk};
+
+use crate::easing::Easing;
+use crate::items::Items;
+use crate::name::{Name, copy_names};
+use crate::shorthand::PropertyItem;
+use crate::timing::{Count, Direction, Fill, PlayState};
+use fix_num::Micros;
+use std::alloc::{AllocError, Global};
+
+/// A timing list. The variants in `Easing` are the lists of timing functions, and `AnimationCount` is that
+/// of iteration counts.
+#[derive(Clone, Copy, Debug, PartialEq, Eq)]
+pub enum ListName {
+    TransitionProperty,
+    TransitionDuration,
+    TransitionDelay,
+    TransitionEasing,
+    AnimationName,
+    AnimationDuration,
+    AnimationDelay,
+    AnimationEasing,
+    AnimationCount,
+    AnimationDirection,
+    AnimationFill,
+    AnimationPlayState,
+}
+
+/// What a declaration gives a timing list: a keyword of the cascade, or its items.
+#[derive(Debug, Drop)]
+pub enum ListValue {
+    Inherit,
+    Initial,
+    Properties(Items<PropertyItem>),
+    /// Durations or delays.
+    Times(Items<Micros>),
+    Easings(Items<Easing>),
+    Names(Items<Option<Name>>),
+    Counts(Items<Count>),
+    Directions(Items<Direction>),
+    Fills(Items<Fill>),
+    States(Items<PlayState>),
+}
+
+impl ListValue {
+    pub fn copy(&self, alloc: Global) -> Result<ListValue, AllocError>
+        ensures { IfOk result (λ copy. copy ≡ self.now) }
+    {
+        Ok(match self {
+            ListValue::Inherit => ListValue::Inherit,
+            ListValue::Initial => ListValue::Initial,
+            ListValue::Properties(list) => ListValue::Properties(list.copy(alloc)?),
+            ListValue::Times(list) => ListValue::Times(list.copy(alloc)?),
+            ListValue::Easings(list) => ListValue::Easings(list.copy(alloc)?),
+            ListValue::Names(list) => ListValue::Names(copy_names(alloc, list.as_slice())?),
+            ListValue::Counts(list) => ListValue::Counts(list.copy(alloc)?),
+            ListValue::Directions(list) => ListValue::Directions(list.copy(alloc)?),
+            ListValue::Fills(list) => ListValue::Fills(list.copy(alloc)?),
+            ListValue::States(list) => ListValue::States(list.copy(alloc)?),
+        })
+    }
+}
