@@ -1,7 +1,6 @@
 -- The ends, and what lies between them.
-use Rattle.std.proofs.Common.{◌≡◌, ℕ, zero, suc, ◌^◌, refl, arith, ap, sym, ◌∙◌, subst, rules}
+use Rattle.std.proofs.Common.{◌≡◌, ℕ, zero, suc, ◌^◌, refl, arith, sym, subst}
 use Rattle.std.specs.Prelude.{ℤ, pos, ◌≤ℤ◌, Bool, true, false, if◌then◌else◌, ◌||◌}
-use Rattle.std.specs.Int.{int_min, int_max}
 use Rattle.std.specs.Ordering.{int_eq}
 use Rattle.std.proofs.lemmas.Int.{ints, clamps}
 use Rattle.std.proofs.lemmas.Bool.Decides.{Decides-int_eq}
@@ -14,7 +13,7 @@ use Rattle.value_types.specs.declared.value.Value.TheVariants as value
 use Rattle.interpolation.specs.Colors.{alpha_between, color_with, channel_between}
 use Rattle.interpolation.specs.Equality.{is_same}
 use Rattle.interpolation.specs.Interpolation.{beside, by_parts, value_between, number_at, IsBetween}
-use Rattle.interpolation.specs.Numbers.{clamped, on_the_way, lowest, highest, number_between, integer_between}
+use Rattle.interpolation.specs.Numbers.{on_the_way, lowest, highest, number_between, integer_between}
 use Rattle.interpolation.proofs.EqualityLemmas.{same_tells, same_as_itself}
 use Rattle.interpolation.proofs.NumberLemmas.{way_fits, clamped_fits}
 use Rattle.interpolation.proofs.ValidityLemmas.{IsFrom, from_number, from_percent, at_each_output, beside_valid}

@@ -57,17 +57,17 @@ is_interpolable p a b = takes p (kind_of a) && takes p (kind_of b) && are_interp
 
 -- ---- the value at an output
 
--- v beside w: none counts as zero (CSS Transforms 2, section 12)
+-- v beside w: none counts as the zero of w's kind (CSS Transforms 2, interpolation of translate and rotate)
 abbrev pub beside : Value → Value → Value
 beside (value.Angle n) value.Absent = value.Angle (fix 0)
 beside (value.Pair x xp y yp) value.Absent = value.Pair (fix 0) (fix 0) (fix 0) (fix 0)
 beside w v = v
 
--- visible all the way between the ends (CSS Display 3, section 4)
+-- visible all the way between the ends (Web Animations Level 1, animation of visibility)
 abbrev pub visibility_between : Visibility → Visibility → ℤ → Visibility
 visibility_between v w q = (if int_lt q (pos 0) then v else if int_lt (pos (10 ^ 9)) q then w else Visible)
 
--- the value at output q between values of one kind, by their parts
+-- the value at output q between values of one kind, by their parts; other values stay: they are equal or can't be interpolated
 abbrev pub by_parts : PropertyId → Value → Value → ℤ → Value
 by_parts p (value.Number m) (value.Number n) q = value.Number (number_between p m n q)
 by_parts p (value.Length px pct) (value.Length px' pct') q = value.Length (number_between p px px' q) (number_between p pct pct' q)

@@ -8,7 +8,7 @@ use fix_num::{Bill, Fix, rnd};
 use value_types::Value;
 
 /// The channels of sRGB and the alpha of a colour.
-#[derive(Clone, Copy, Debug, PartialEq, Eq)]
+#[derive(Clone, Copy)]
 pub(crate) struct Rgba {
     pub(crate) r: u8,
     pub(crate) g: u8,
@@ -84,6 +84,7 @@ fn alpha_between(a: Fix, b: Fix, q: Bill) -> Fix
     Fix(within(0, 1_000_000, on_the_way(a.0, b.0, q.0)))
 }
 
+/// The channel multiplied by its alpha.
 fn premultiplied(c: u8, alpha: Fix) -> i64
     requires { IsAlpha alpha }
     ensures value { result ≡ premultiplied c alpha }

@@ -48,6 +48,7 @@ fn beside(w: Value, v: Value) -> Value
     }
 }
 
+/// The value at output `q` between values of one kind, by their parts.
 fn by_parts(p: PropertyId, a: Value, b: Value, q: Bill) -> Value
     requires from { IsValid p a }
     requires to { IsValid p b }

@@ -1,9 +1,8 @@
-use Rattle.std.proofs.Common.{◌≡◌, ◌*◌, ◌^◌, ◌≤◌, ap, arith, rules}
-use Rattle.std.specs.Prelude.{ℤ, pos, ◌+ℤ◌, ◌-ℤ◌, ◌*ℤ◌, unsigned_abs}
+use Rattle.std.proofs.Common.{◌^◌, ap, arith, rules}
+use Rattle.std.specs.Prelude.{pos, ◌+ℤ◌, ◌-ℤ◌, ◌*ℤ◌}
 use Rattle.std.specs.Int.{w64, w128}
 use Rattle.std.proofs.lemmas.Int.{ints, to_z-of_z, fits_signed_from_abs}
 use mir.Val.{SFits}
-use Rattle.interpolation.specs.Colors.{premultiplied_between}
 use Rattle.interpolation.proofs.color.premultiplied_between.Goals as goal
 
 sum_fits : (c : goal.After-scaled) → SFits w128 ((c.args.c *ℤ pos (10 ^ 9)) +ℤ c.scaled.result)

@@ -1,6 +1,4 @@
-use Rattle.std.proofs.Common.{◌≡◌, rules}
-use Rattle.interpolation.specs.Interpolation.{beside, by_parts}
-use Rattle.interpolation.proofs.ValidityLemmas.{beside_valid, parts_valid}
+use Rattle.interpolation.proofs.ValidityLemmas.{parts_valid}
 use Rattle.interpolation.proofs.values.between.Goals as goal
 
 pub by_parts-requires-clause-from : goal.by_parts-requires-clause-from
