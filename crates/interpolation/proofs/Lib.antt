@@ -1,0 +1,4 @@
+pub mod BetweenLemmas
+pub mod EqualityLemmas
+pub mod NumberLemmas
+pub mod ValidityLemmas

@@ -1,0 +1,4 @@
+pub mod Colors
+pub mod Equality
+pub mod Interpolation
+pub mod Numbers
