@@ -1,6 +1,6 @@
 //! Names that a user gives.
 
-ghost use Rattle.std.specs.Prelude.{◌≡◌, ◌↔◌, IfOk, IsTrue};
+ghost use Rattle.std.specs.Prelude.{◌≡◌, ◌↔◌, [], IfOk, IsTrue};
 
 use crate::items::Items;
 use std::alloc::{AllocError, Global};
@@ -22,6 +22,15 @@ impl Model for Name {
 }
 
 impl Name {
+    /// The name of no bytes. Takes no memory.
+    pub fn empty(alloc: Global) -> Name
+        ensures { result ≡ [] }
+    {
+        Name {
+            bytes: Vec::new(alloc),
+        }
+    }
+
     /// The name of these bytes.
     pub fn from_bytes(alloc: Global, bytes: &[u8]) -> Result<Name, AllocError>
         ensures { IfOk result (λ n. n ≡ bytes.now) }

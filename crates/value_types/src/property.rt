@@ -3,8 +3,10 @@
 ghost use Rattle.std.specs.Prelude.{◌≡◌, slice_get};
 
 /// A property. The variants stand in the order of their names by code point, which is that of their numbers.
-#[derive(Clone, Copy, Debug, PartialEq, Eq)]
+/// The default fills unused places of short lists.
+#[derive(Clone, Copy, Debug, Default, PartialEq, Eq)]
 pub enum PropertyId {
+    #[default]
     BackgroundColor,
     Bottom,
     Color,
@@ -32,7 +34,7 @@ pub enum PropertyId {
 }
 
 impl PropertyId {
-    ghost use Rattle.std.specs.Prelude.{◌≡◌, slice_get};
+    ghost use Rattle.std.specs.Prelude.{◌≡◌, ◌<◌, slice_get};
     ghost use Rattle.value_types.specs.Properties.{is_named, name_of, number_of, all_properties, property_named};
 
     /// Every property, in the order of the numbers.
@@ -97,7 +99,8 @@ impl PropertyId {
 
     /// The number, 0 to 23: the place of the name in the order by code point.
     pub fn number(self) -> u32
-        ensures { result ≡ number_of self }
+        ensures value { result ≡ number_of self }
+        ensures small { result < 24 }
     {
         self as u32
     }

@@ -2,137 +2,66 @@ use super::*;
 use fix_num::{Bill, Fix, Micros};
 use std::test::Fail;
 
-/// Each property's name, whether it is inherited, and its initial value, by number.
-const ROWS: [(&str, bool, Value); 24] = [
-    (
-        "background-color",
-        false,
-        Value::Color {
-            r: 0,
-            g: 0,
-            b: 0,
-            a: Fix(0),
-        },
-    ),
-    ("bottom", false, Value::Auto),
-    (
-        "color",
-        true,
-        Value::Color {
-            r: 0,
-            g: 0,
-            b: 0,
-            a: Fix(1_000_000),
-        },
-    ),
-    ("display", false, Value::Display(Display::Inline)),
-    (
-        "font-size",
-        true,
-        Value::Length {
-            px: Fix(16_000_000),
-            pct: Fix(0),
-        },
-    ),
-    ("height", false, Value::Auto),
-    ("left", false, Value::Auto),
-    (
-        "letter-spacing",
-        true,
-        Value::Length {
-            px: Fix(0),
-            pct: Fix(0),
-        },
-    ),
-    (
-        "margin-bottom",
-        false,
-        Value::Length {
-            px: Fix(0),
-            pct: Fix(0),
-        },
-    ),
-    (
-        "margin-left",
-        false,
-        Value::Length {
-            px: Fix(0),
-            pct: Fix(0),
-        },
-    ),
-    (
-        "margin-right",
-        false,
-        Value::Length {
-            px: Fix(0),
-            pct: Fix(0),
-        },
-    ),
-    (
-        "margin-top",
-        false,
-        Value::Length {
-            px: Fix(0),
-            pct: Fix(0),
-        },
-    ),
-    ("opacity", false, Value::Number(Fix(1_000_000))),
-    (
-        "padding-bottom",
-        false,
-        Value::Length {
-            px: Fix(0),
-            pct: Fix(0),
-        },
-    ),
-    (
-        "padding-left",
-        false,
-        Value::Length {
-            px: Fix(0),
-            pct: Fix(0),
-        },
-    ),
-    (
-        "padding-right",
-        false,
-        Value::Length {
-            px: Fix(0),
-            pct: Fix(0),
-        },
-    ),
-    (
-        "padding-top",
-        false,
-        Value::Length {
-            px: Fix(0),
-            pct: Fix(0),
-        },
-    ),
-    ("right", false, Value::Auto),
-    ("rotate", false, Value::Absent),
-    ("top", false, Value::Auto),
-    ("translate", false, Value::Absent),
-    ("visibility", true, Value::Visible(Visibility::Visible)),
-    ("width", false, Value::Auto),
-    ("z-index", false, Value::Auto),
+/// The names in the order of the numbers.
+const NAMES: [&str; 24] = [
+    "background-color",
+    "bottom",
+    "color",
+    "display",
+    "font-size",
+    "height",
+    "left",
+    "letter-spacing",
+    "margin-bottom",
+    "margin-left",
+    "margin-right",
+    "margin-top",
+    "opacity",
+    "padding-bottom",
+    "padding-left",
+    "padding-right",
+    "padding-top",
+    "right",
+    "rotate",
+    "top",
+    "translate",
+    "visibility",
+    "width",
+    "z-index",
 ];
 
-fn has_row(n: u32, name: &str, inherited: bool, initial: Value) -> bool {
-    let Some(p) = PropertyId::from_number(n) else {
-        return false;
-    };
-    p.number() == n
-        && p.name() == name
-        && PropertyId::by_name(name) == Some(p)
-        && is_inherited(p) == inherited
-        && initial_value(p) == initial
+fn is_at(n: u32, name: &str) -> bool {
+    match PropertyId::from_number(n) {
+        None => false,
+        Some(p) => p.number() == n && p.name() == name && PropertyId::by_name(name) == Some(p),
+    }
 }
 
 #[test]
-fn table_of_properties(rt: HostRuntime) {
-    for (n, (name, inherited, initial)) in ROWS.iter().enumerate() {
-        assert!(rt; has_row(n as u32, name, *inherited, *initial));
+fn names_in_order(rt: HostRuntime) {
+    for (n, name) in NAMES.iter().enumerate() {
+        assert!(rt; is_at(n as u32, name));
+    }
+}
+
+#[test]
+fn rows_of_the_table(rt: HostRuntime) {
+    let pixels = Value::Length {
+        px: Fix(16_000_000),
+        pct: Fix(0),
+    };
+    for (p, inherited, initial) in [
+        (PropertyId::FontSize, true, pixels),
+        (PropertyId::Opacity, false, Value::Number(Fix(1_000_000))),
+        (PropertyId::Translate, false, Value::Absent),
+        (
+            PropertyId::Visibility,
+            true,
+            Value::Visible(Visibility::Visible),
+        ),
+        (PropertyId::Width, false, Value::Auto),
+    ] {
+        assert_eq!(rt; (is_inherited(p), initial_value(p)), (inherited, initial));
     }
 }
 
