@@ -1,0 +1,6 @@
+use Rattle.style_data.specs.TransitionSets.{transition_set}
+use Rattle.style_data.proofs.Lookups.{completed_is_kept}
+use Rattle.style_data.proofs.transitions.Transitions.completed_of.Goals as goal
+
+pub returns-clause-kept : goal.returns-clause-kept
+returns-clause-kept c = rw (c.completed_for.ensures, c.as_slice.ensures) (completed_is_kept (transition_set c.self.inside.running.items c.self.inside.completed.items) c.args.p c.self.invariant)
