@@ -4,10 +4,10 @@ use Rattle.std.specs.Prelude.{◌⊎◌, ℤ, ◌≤ℤ◌, int_lt, if◌then◌
 use Rattle.std.proofs.lemmas.Bool.{cases_lt}
 use Rattle.std.proofs.lemmas.Int.{ints}
 use Rattle.std.proofs.lemmas.List.Elements.{filter-append}
-use Rattle.fix_num.specs.declared.units.Fix.{Fix}
-use Rattle.transition_start.specs.declared.transition.Running.{Running}
-use Rattle.transition_start.specs.declared.transition.Phase.{Phase}
-use Rattle.transition_start.specs.declared.transition.Phase.TheVariants.{Idle, Before, Active, After}
+use Rattle.value_types.specs.declared.value.Value.{Value}
+use Rattle.style_data.specs.declared.transition.Transition.{Transition}
+use Rattle.style_data.specs.declared.transition.Phase.{Phase}
+use Rattle.style_data.specs.declared.transition.Phase.TheVariants.{Idle, Before, Active, After}
 use Rattle.transcript_cli.specs.declared.refusal.Refusal.{Refusal}
 use Rattle.transcript_cli.specs.declared.refusal.Refusal.TheVariants.{Syntax}
 use Rattle.transcript_cli.specs.declared.world.World.{World}
@@ -46,7 +46,7 @@ seen_later s t Before start later h = tt
 seen_later s t Active start later h = omega (arith, ints)
 seen_later s t After start later h = h
 
-live_later : (running : Option Running) (opacity : Fix) (frames : ℕ) (s t : ℤ) → s ≤ℤ t → IfSome running (IsLive opacity frames s) → IfSome running (IsLive opacity frames t)
+live_later : (running : Option Transition) (opacity : Value) (frames : ℕ) (s t : ℤ) → s ≤ℤ t → IfSome running (IsLive opacity frames s) → IfSome running (IsLive opacity frames t)
 live_later None opacity frames s t later h = tt
 live_later (Some r) opacity frames s t later h = record { arrives = h.arrives; generation = h.generation; seen = seen_later s t r.seen r.start.0 later h.seen }
 

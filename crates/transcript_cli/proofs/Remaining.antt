@@ -7,10 +7,10 @@ use Rattle.std.proofs.lemmas.Bool.{cases_lt, ne_eqb, eq-eqb}
 use Rattle.std.proofs.lemmas.Int.{ints, int_max_is}
 use Rattle.std.proofs.lemmas.List.{map-append}
 use Rattle.std.proofs.lemmas.List.Elements.{filter-append}
-use Rattle.fix_num.specs.declared.units.Fix.{Fix}
-use Rattle.transition_start.specs.declared.transition.Running.{Running}
-use Rattle.transition_start.specs.declared.transition.Phase.{Phase}
-use Rattle.transition_start.specs.declared.transition.Phase.TheVariants.{Idle, Before, Active, After}
+use Rattle.value_types.specs.declared.value.Value.{Value}
+use Rattle.style_data.specs.declared.transition.Transition.{Transition}
+use Rattle.style_data.specs.declared.transition.Phase.{Phase}
+use Rattle.style_data.specs.declared.transition.Phase.TheVariants.{Idle, Before, Active, After}
 use Rattle.transition_start.specs.Decision.{Rule, Unmatched, Starts, DropsCompleted, CancelsThere, CancelsAtOnce, Reverses, Replaces, Keeps, Wants, outcome, rule_of, decision_of, started}
 use Rattle.transition_start.specs.Phase.{phase_of}
 use Rattle.transition_start.proofs.Rules.{applies}
@@ -30,7 +30,7 @@ kinds_left Active = End ∷ []
 kinds_left After = []
 
 -- the events that are still to come of a transition
-abbrev pub left_of : Option Running → List Event
+abbrev pub left_of : Option Transition → List Event
 left_of None = []
 left_of (Some r) = map (event_of r) (kinds_left r.seen)
 
@@ -42,7 +42,7 @@ SeenBy t Active start = start ≤ℤ t
 SeenBy t After start = ⊥
 
 -- a transition that runs at a time, after so many frames, where the style has this opacity
-pub record IsLive (opacity : Fix) (frames : ℕ) (t : ℤ) (r : Running) : Type 0 where
+pub record IsLive (opacity : Value) (frames : ℕ) (t : ℤ) (r : Transition) : Type 0 where
   pub arrives : r.to ≡ opacity
   pub generation : r.generation ≤ frames
   pub seen : SeenBy t r.seen r.start.0
@@ -64,19 +64,19 @@ behind front xs ys (rest, e) = (rest, ap (λ zs. front ++ zs) e ∙ sym (append_
 
 -- ---- the events of a generation
 
-apart : (r : Running) (g : ℕ) (kinds : List EventKind) → (r.generation ≡ g → ⊥) → of_generation g (map (event_of r) kinds) ≡ []
+apart : (r : Transition) (g : ℕ) (kinds : List EventKind) → (r.generation ≡ g → ⊥) → of_generation g (map (event_of r) kinds) ≡ []
 apart r g [] h = refl
 apart r g (kind ∷ kinds) h = rw (ne_eqb r.generation g h) (apart r g kinds h)
 
-all_of : (r : Running) (g : ℕ) (kinds : List EventKind) → r.generation ≡ g → of_generation g (map (event_of r) kinds) ≡ map (event_of r) kinds
+all_of : (r : Transition) (g : ℕ) (kinds : List EventKind) → r.generation ≡ g → of_generation g (map (event_of r) kinds) ≡ map (event_of r) kinds
 all_of r g [] h = refl
 all_of r g (kind ∷ kinds) h = rw (eq-eqb r.generation g h) (ap (λ events. event_of r kind ∷ events) (all_of r g kinds h))
 
-none_left : (running : Option Running) (g : ℕ) → IfSome running (λ r. r.generation ≡ g → ⊥) → of_generation g (left_of running) ≡ []
+none_left : (running : Option Transition) (g : ℕ) → IfSome running (λ r. r.generation ≡ g → ⊥) → of_generation g (left_of running) ≡ []
 none_left None g h = refl
 none_left (Some r) g h = apart r g (kinds_left r.seen) h
 
-none_sent : (running : Option Running) (t : ℤ) (g : ℕ) → IfSome running (λ r. r.generation ≡ g → ⊥) → of_generation g (events_at running t) ≡ []
+none_sent : (running : Option Transition) (t : ℤ) (g : ℕ) → IfSome running (λ r. r.generation ≡ g → ⊥) → of_generation g (events_at running t) ≡ []
 none_sent None t g h = refl
 none_sent (Some r) t g h = apart r g (kinds_between r.seen (phase_of r t)) h
 
@@ -96,7 +96,7 @@ split Active t start false false h e = refl
 split After t start ended early h e = absurd h
 
 -- what is still to come is what the tick sends, and then what is still to come after it
-tick_sends : (entry : Entry) (t : ℤ) (running : Option Running) → entry.running ≡ running → IfSome running (λ r. SeenBy t r.seen r.start.0)
+tick_sends : (entry : Entry) (t : ℤ) (running : Option Transition) → entry.running ≡ running → IfSome running (λ r. SeenBy t r.seen r.start.0)
     → left_of running ≡ events_at running t ++ left_of (after_tick entry t running).running
 tick_sends entry t None is h = ap left_of (sym is)
 tick_sends entry t (Some r) is h = go (int_le r.end.0 t) (int_lt t r.start.0) refl where
@@ -107,7 +107,7 @@ tick_sends entry t (Some r) is h = go (int_le r.end.0 t) (int_lt t r.start.0) re
   go false true e = ap (map (event_of r)) (split r.seen t r.start.0 false true h e) ∙ map-append (event_of r) (kinds_between r.seen Before) (kinds_left Before)
   go false false e = ap (map (event_of r)) (split r.seen t r.start.0 false false h e) ∙ map-append (event_of r) (kinds_between r.seen Active) (kinds_left Active)
 
-tick_keeps : (entry : Entry) (t : ℤ) (opacity : Fix) (frames : ℕ) (running : Option Running)
+tick_keeps : (entry : Entry) (t : ℤ) (opacity : Value) (frames : ℕ) (running : Option Transition)
     → entry.running ≡ running → IfSome running (IsLive opacity frames t) → IfSome (after_tick entry t running).running (IsLive opacity frames t)
 tick_keeps entry t opacity frames None is h = rw is tt
 tick_keeps entry t opacity frames (Some r) is h = go (int_le r.end.0 t) (int_lt t r.start.0) refl where
@@ -120,20 +120,20 @@ tick_keeps entry t opacity frames (Some r) is h = go (int_le r.end.0 t) (int_lt 
 -- ---- a style change event
 
 -- a transition that it starts
-record IsNew (opacity : Fix) (frames : ℕ) (r : Running) : Type 0 where
+record IsNew (opacity : Value) (frames : ℕ) (r : Transition) : Type 0 where
   arrives : r.to ≡ opacity
   generation : r.generation ≡ frames + 1
   unseen : r.seen ≡ Idle
   ordered : r.start.0 ≤ℤ r.end.0
 
 -- the transition that runs goes on, or none runs then, or a new one does
-abbrev Follows : Fix → ℕ → Option Running → Option Running → Type 0
-Follows opacity frames before after = (after ≡ before) ⊎ ((after ≡ None) ⊎ ((r : Running) × (after ≡ Some r) × IsNew opacity frames r))
+abbrev Follows : Value → ℕ → Option Transition → Option Transition → Type 0
+Follows opacity frames before after = (after ≡ before) ⊎ ((after ≡ None) ⊎ ((r : Transition) × (after ≡ Some r) × IsNew opacity frames r))
 
 has_time : (t d : ℤ) → pos 0 <ℤ (int_max (pos 0) d +ℤ pos 0) → (t +ℤ pos 0) ≤ℤ ((t +ℤ pos 0) +ℤ d)
 has_time t d h = omega (arith, ints, int_max_is (pos 0) d)
 
-not_elsewhere : (running : Option Running) (to : Fix) (P : Running → Type 0) → IfSome running (λ r. r.to ≡ to) → IsSomeAnd running (λ r. (r.to ≢ to) × P r) → ⊥
+not_elsewhere : (running : Option Transition) (to : Value) (P : Transition → Type 0) → IfSome running (λ r. r.to ≡ to) → IsSomeAnd running (λ r. (r.to ≢ to) × P r) → ⊥
 not_elsewhere None to P arrives h = h
 not_elsewhere (Some r) to P arrives h = h.0 arrives
 
@@ -141,7 +141,7 @@ by_rule : (w : World) → IfSome w.entry.running (λ r. r.to ≡ w.style.opacity
     → Follows w.style.opacity w.frames w.entry.running (outcome (change_of w) rule).running
 by_rule w arrives Unmatched h = inr (inl refl)
 by_rule w arrives Starts h =
-    inr (inr (started (change_of w) (match_of w.style) (change_of w).before, refl, record { arrives = refl; generation = refl; unseen = refl; ordered = has_time w.time.0 w.style.duration.0 h.0 }))
+    inr (inr (started (change_of w).event (match_of w.style) (change_of w).event.before, refl, record { arrives = refl; generation = refl; unseen = refl; ordered = has_time w.time.0 w.style.duration.0 h.1.1.1.1 }))
 by_rule w arrives DropsCompleted h = inr (inl refl)
 by_rule w arrives CancelsThere h = inr (inl refl)
 by_rule w arrives CancelsAtOnce h = inr (inl refl)
@@ -167,17 +167,17 @@ follows w arrives = go w.root where
 -- ---- the events that follow
 
 -- events of a generation, from a moment on: what is still to come of a transition that has started, or events of one that starts later
-pub record Ahead (running : Option Running) (frames g : ℕ) (events : List Event) : Type 0 where
+pub record Ahead (running : Option Transition) (frames g : ℕ) (events : List Event) : Type 0 where
   pub old : g ≤ frames → IsPrefixOf events (of_generation g (left_of running))
   pub new : frames < g → (events ≡ []) ⊎ AreOfOne events
 
-start_after_run : (r : Running) → ComesBefore (event_of r Run) (event_of r Start)
+start_after_run : (r : Transition) → ComesBefore (event_of r Run) (event_of r Start)
 start_after_run r = go (int_lt r.start.0 r.created.0) refl where
   go : (b : Bool) → int_lt r.start.0 r.created.0 ≡ b → (r.created.0 <ℤ (if b then r.created.0 else r.start.0)) ⊎ ((r.created.0 ≡ (if b then r.created.0 else r.start.0)) × (rank_of Run < rank_of Start))
   go true e = inr (refl, omega arith)
   go false e = grind (arith, ints)
 
-end_after_start : (r : Running) → r.start.0 ≤ℤ r.end.0 → ComesBefore (event_of r Start) (event_of r End)
+end_after_start : (r : Transition) → r.start.0 ≤ℤ r.end.0 → ComesBefore (event_of r Start) (event_of r End)
 end_after_start r h = ordered (int_max r.created.0 r.start.0) (int_max r.created.0 r.end.0) (omega (arith, ints, int_max_is r.created.0 r.start.0, int_max_is r.created.0 r.end.0)) where
   ordered : (a b : ℤ) → a ≤ℤ b → (a <ℤ b) ⊎ ((a ≡ b) × (rank_of Start < rank_of End))
   ordered a b h = go (int_lt a b) refl where
@@ -185,7 +185,7 @@ end_after_start r h = ordered (int_max r.created.0 r.start.0) (int_max r.created
     go true e = inl (grind (arith, ints))
     go false e = inr (grind (arith, ints), omega arith)
 
-of_new : (opacity : Fix) (frames g : ℕ) (r : Running) (events : List Event) → IsNew opacity frames r → g ≡ frames + 1 → IsPrefixOf events (of_generation g (left_of (Some r))) → AreOfOne events
+of_new : (opacity : Value) (frames g : ℕ) (r : Transition) (events : List Event) → IsNew opacity frames r → g ≡ frames + 1 → IsPrefixOf events (of_generation g (left_of (Some r))) → AreOfOne events
 of_new opacity frames g r events new e first =
     let all : of_generation g (left_of (Some r)) ≡ three_events r = all_of r g (kinds_left r.seen) (new.generation ∙ sym e) ∙ ap (λ phase. map (event_of r) (kinds_left phase)) new.unseen in
     record {
@@ -195,12 +195,12 @@ of_new opacity frames g r events new e first =
       end_after_start = end_after_start r new.ordered;
     }
 
-earlier : (running : Option Running) (opacity : Fix) (frames g : ℕ) (t : ℤ) → IfSome running (IsLive opacity frames t) → frames < g → IfSome running (λ r. r.generation ≡ g → ⊥)
+earlier : (running : Option Transition) (opacity : Value) (frames g : ℕ) (t : ℤ) → IfSome running (IsLive opacity frames t) → frames < g → IfSome running (λ r. r.generation ≡ g → ⊥)
 earlier None opacity frames g t h less = tt
 earlier (Some r) opacity frames g t h less = λ e. let k = h.generation in absurd (omega arith)
 
 -- a style change event
-style_change : (before after : Option Running) (opacity : Fix) (frames g : ℕ) (t : ℤ) (events : List Event) → IfSome before (IsLive opacity frames t)
+style_change : (before after : Option Transition) (opacity : Value) (frames g : ℕ) (t : ℤ) (events : List Event) → IfSome before (IsLive opacity frames t)
     → Follows opacity frames before after → Ahead after (frames + 1) g events → Ahead before frames g events
 style_change before after opacity frames g t events live follows ahead = record { old = old follows; new = new } where
   old : Follows opacity frames before after → g ≤ frames → IsPrefixOf events (of_generation g (left_of before))
@@ -219,20 +219,20 @@ style_change before after opacity frames g t events live follows ahead = record 
   new : frames < g → (events ≡ []) ⊎ AreOfOne events
   new high = elim (cases_lt (frames + 1) g) [ inl later ↦ ahead.new later | inr low ↦ first follows high low ]
 
-arrives_of : (running : Option Running) (opacity : Fix) (frames : ℕ) (t : ℤ) → IfSome running (IsLive opacity frames t) → IfSome running (λ r. r.to ≡ opacity)
+arrives_of : (running : Option Transition) (opacity : Value) (frames : ℕ) (t : ℤ) → IfSome running (IsLive opacity frames t) → IfSome running (λ r. r.to ≡ opacity)
 arrives_of None opacity frames t h = tt
 arrives_of (Some r) opacity frames t h = h.arrives
 
-seen_of : (running : Option Running) (opacity : Fix) (frames : ℕ) (t : ℤ) → IfSome running (IsLive opacity frames t) → IfSome running (λ r. SeenBy t r.seen r.start.0)
+seen_of : (running : Option Transition) (opacity : Value) (frames : ℕ) (t : ℤ) → IfSome running (IsLive opacity frames t) → IfSome running (λ r. SeenBy t r.seen r.start.0)
 seen_of None opacity frames t h = tt
 seen_of (Some r) opacity frames t h = h.seen
 
 abbrev pub Lives : World → Type 0
 Lives w = IfSome w.entry.running (IsLive w.style.opacity w.frames w.time.0)
 
-follows_live : (before after : Option Running) (opacity : Fix) (frames : ℕ) (t : ℤ) → IfSome before (IsLive opacity frames t) → Follows opacity frames before after → IfSome after (IsLive opacity (frames + 1) t)
+follows_live : (before after : Option Transition) (opacity : Value) (frames : ℕ) (t : ℤ) → IfSome before (IsLive opacity frames t) → Follows opacity frames before after → IfSome after (IsLive opacity (frames + 1) t)
 follows_live before after opacity frames t live (inl same) = rw same (one_later before live) where
-  one_later : (running : Option Running) → IfSome running (IsLive opacity frames t) → IfSome running (IsLive opacity (frames + 1) t)
+  one_later : (running : Option Transition) → IfSome running (IsLive opacity frames t) → IfSome running (IsLive opacity (frames + 1) t)
   one_later None h = tt
   one_later (Some r) h = let k = h.generation in record { arrives = h.arrives; generation = omega arith; seen = h.seen }
 follows_live before after opacity frames t live (inr (inl none)) = rw none tt

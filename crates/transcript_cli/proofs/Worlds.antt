@@ -1,10 +1,10 @@
 -- What edits and ticks keep of a world.
 use Rattle.std.proofs.Common.{◌≡◌, ℕ, refl, ap, ◌∙◌, List, map}
 use Rattle.std.specs.Prelude.{Bool, true, false, is_some, if◌then◌else◌, IfSome, IsSomeAnd, Option, Some, None, ◌==◌}
-use Rattle.fix_num.specs.declared.units.Fix.{Fix}
+use Rattle.value_types.specs.declared.value.Value.{Value}
 use Rattle.doc_tree.specs.Element.{Element, Document}
 use Rattle.doc_tree.specs.Change.{with_style, restyled}
-use Rattle.transition_start.specs.declared.transition.Running.{Running}
+use Rattle.style_data.specs.declared.transition.Transition.{Transition}
 use Rattle.transcript_cli.specs.declared.refusal.Refusal.{Refusal}
 use Rattle.transcript_cli.specs.declared.refusal.Refusal.TheVariants.{Syntax}
 use Rattle.transcript_cli.specs.Sound.{IsRootOf}
@@ -18,11 +18,11 @@ root_restyled None tree n text e = rw e refl
 root_restyled (Some k) tree n text (e, is, one) = (restyled n text e, same_number n text e (e.number == n) ∙ is, ap (map (restyled n text)) one)
 
 -- where a style is accepted, no transition runs
-pub none_runs : (P : Running → Type 0) (running : Option Running) (rest : Option Refusal) → (if is_some running then Some Syntax else rest) ≡ None → IfSome running P
+pub none_runs : (P : Transition → Type 0) (running : Option Transition) (rest : Option Refusal) → (if is_some running then Some Syntax else rest) ≡ None → IfSome running P
 none_runs P None rest e = tt
 none_runs P (Some r) rest e = cc
 
-pub still_arrives : (now before : Option Running) (to : Fix) → IfSome now (λ r. IsSomeAnd before (λ s. r.to ≡ s.to)) → IfSome before (λ s. s.to ≡ to) → IfSome now (λ r. r.to ≡ to)
+pub still_arrives : (now before : Option Transition) (to : Value) → IfSome now (λ r. IsSomeAnd before (λ s. r.to ≡ s.to)) → IfSome before (λ s. s.to ≡ to) → IfSome now (λ r. r.to ≡ to)
 still_arrives None before to same h = tt
 still_arrives (Some r) None to same h = absurd same
 still_arrives (Some r) (Some s) to same h = same ∙ h

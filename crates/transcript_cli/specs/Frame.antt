@@ -1,12 +1,13 @@
 -- Frames: a tick, its events, and a style change event (CSS Transitions Level 1, section 3).
 use Rattle.std.specs.Prelude.{◌+◌, ℤ, pos, true, List, if◌then◌else◌, Option, Some, None}
 use Rattle.std.specs.Option.{option_map_or}
-use Rattle.fix_num.specs.declared.units.Fix.{Fix}
-use Rattle.transition_start.specs.declared.matched.Match.{Match}
-use Rattle.transition_start.specs.declared.matched.Easing.TheVariants.{Linear}
-use Rattle.transition_start.specs.declared.transition.Running.{Running}
-use Rattle.transition_start.specs.declared.starting.Decision.{Decision}
-use Rattle.transition_start.specs.Decision.{Change, decision_of}
+use Rattle.style_data.specs.declared.matched_item.MatchedItem.{MatchedItem}
+use Rattle.value_types.specs.declared.easing.Easing.TheVariants.{Linear}
+use Rattle.value_types.specs.declared.property.PropertyId.TheVariants.{Opacity}
+use Rattle.value_types.specs.declared.value.Value.{Value}
+use Rattle.style_data.specs.declared.transition.Transition.{Transition}
+use Rattle.style_data.specs.declared.decision.Decision.{Decision}
+use Rattle.transition_start.specs.Decision.{Change, changed, decision_of, property_change}
 use Rattle.transition_start.specs.Sampling.{sample_of}
 use Rattle.transcript_cli.specs.declared.declared.Declared.{Declared}
 use Rattle.transcript_cli.specs.declared.world.Entry.{Entry}
@@ -14,29 +15,22 @@ use Rattle.transcript_cli.specs.declared.world.World.{World}
 use Rattle.transcript_cli.specs.Tick.{Event, events_at, ticked}
 
 -- the opacity at time t under these declarations and this transition
-abbrev pub opacity_at : Declared → Option Running → ℤ → Fix
-opacity_at declared running t = option_map_or (λ r. sample_of r t) running declared.opacity
+abbrev pub opacity_at : Declared → Option Transition → ℤ → Value
+opacity_at declared running t = option_map_or (λ r. sample_of Opacity r t) running declared.opacity
 
 -- the matching item of opacity; with no transition declared its duration is 0, and its easing is never asked
-abbrev pub match_of : Declared → Match
+abbrev pub match_of : Declared → MatchedItem
 match_of declared = record { duration = declared.duration; delay = record { 0 = pos 0 }; easing = Linear }
 
 -- what the style change event looks at: the before-change style has the declarations of the previous event and the
 -- transition that runs, the after-change style those of now and no transition
 abbrev pub change_of : World → Change
-change_of w = record {
-  running = w.entry.running;
-  completed = w.entry.completed;
-  before = opacity_at w.entry.declared w.entry.running w.time.0;
-  after = w.style.opacity;
-  matched = Some (match_of w.style);
-  time = w.time.0;
-  generation = w.frames + 1;
-  position = 0;
-}
+change_of w =
+    let before = opacity_at w.entry.declared w.entry.running w.time.0 in
+    changed (property_change Opacity before w.style.opacity w.time.0 (w.frames + 1) 0) w.entry.running w.entry.completed (Some (match_of w.style))
 
 -- the entry that it leaves
-abbrev pub restyled : World → Option Running → Decision → Entry
+abbrev pub restyled : World → Option Transition → Decision → Entry
 restyled w running decision = record {
   styled = true;
   declared = w.style;

@@ -1,8 +1,8 @@
 -- What a script's transcript says of a transition, in the words of the standard.
 use Rattle.std.specs.Prelude.{◌≡◌, ◌⊎◌, ℕ, ◌+◌, ◌<◌, ◌<ℤ◌, nat_eq, List, [], ◌∷◌, ◌++◌, filter, Option, Some, None, option_and_then, ⊤}
-use Rattle.fix_num.specs.declared.units.Fix.{Fix}
-use Rattle.transition_start.specs.declared.transition.Running.{Running}
+use Rattle.style_data.specs.declared.transition.Transition.{Transition}
 use Rattle.transcript_cli.specs.declared.event.EventKind.TheVariants.{Run, Start, End}
+use Rattle.value_types.specs.declared.value.Value.{Value}
 use Rattle.transcript_cli.specs.declared.world.World.{World}
 use Rattle.transcript_cli.specs.Command.{Command, Blank, Add, Style, At, Frame, Get}
 use Rattle.transcript_cli.specs.Frame.{events_of_frame, opacity_at}
@@ -39,12 +39,12 @@ abbrev pub ComesBefore : Event → Event → Type 0
 ComesBefore a b = (a.scheduled <ℤ b.scheduled) ⊎ ((a.scheduled ≡ b.scheduled) × (rank_of a.kind < rank_of b.kind))
 
 -- the three events of a transition
-abbrev pub three_events : Running → List Event
+abbrev pub three_events : Transition → List Event
 three_events r = event_of r Run ∷ event_of r Start ∷ event_of r End ∷ []
 
 -- the events of the generation are the first of a transition's three: run, start, end, in this order, each once at most, in ascending composite order
 pub record AreOfOne (events : List Event) : Type 0 where
-  pub transition : Running
+  pub transition : Transition
   pub first : IsPrefixOf events (three_events transition)
   pub start_after_run : ComesBefore (event_of transition Run) (event_of transition Start)
   pub end_after_start : ComesBefore (event_of transition Start) (event_of transition End)
@@ -57,5 +57,5 @@ HasNoFrame [] = ⊤
 HasNoFrame (line ∷ lines) = (option_and_then command_of line ≡ Some Frame → ⊥) × HasNoFrame lines
 
 -- the opacity at the time of a frame: that of the transition that runs then, else the declared one
-abbrev pub opacity_after_frame : World → Fix
+abbrev pub opacity_after_frame : World → Value
 opacity_after_frame w = opacity_at w.entry.declared w.entry.running w.time.0

@@ -2,6 +2,7 @@
 use Rattle.std.specs.Prelude.{ℕ, ◌^◌, ◌==◌, ℤ, pos, Bool, not, nat_lt, List, length, drop, take_while, if◌then◌else◌, Option, Some, None, option_map, option_and_then, codes}
 use Rattle.std.specs.List.{list_all}
 use Rattle.fix_num.specs.Decimal.{reading_of}
+use Rattle.value_types.specs.declared.value.Value.TheVariants as value
 use Rattle.transcript_cli.specs.declared.declared.Declared.{Declared}
 use Rattle.transcript_cli.specs.Number.{not_negative}
 use Rattle.transcript_cli.specs.Affix.{behind_prefix, before_suffix}
@@ -25,7 +26,7 @@ transition_of text =
     else option_and_then duration_of (option_and_then (before_suffix (codes "s linear")) (behind_prefix (codes "; transition: opacity ") text))
 
 abbrev pub declared : ℤ → ℤ → Declared
-declared opacity duration = record { opacity = record { 0 = opacity }; duration = record { 0 = duration } }
+declared opacity duration = record { opacity = value.Number (record { 0 = opacity }); duration = record { 0 = duration } }
 
 abbrev pub with_transition : List ℕ → ℤ → Option Declared
 with_transition rest opacity = option_map (declared opacity) (transition_of rest)

@@ -2,9 +2,9 @@
 -- Level 1, section 4.4.5 "update animations and send events"; CSS Transitions Level 1, section 6).
 use Rattle.std.specs.Prelude.{ℕ, ℤ, pos, ◌-ℤ◌, int_le, List, [], ◌∷◌, map, if◌then◌else◌, Option, Some, None}
 use Rattle.std.specs.Int.{int_min, int_max}
-use Rattle.transition_start.specs.declared.transition.Running.{Running}
-use Rattle.transition_start.specs.declared.transition.Phase.{Phase}
-use Rattle.transition_start.specs.declared.transition.Phase.TheVariants.{Idle, Before, Active, After}
+use Rattle.style_data.specs.declared.transition.Transition.{Transition}
+use Rattle.style_data.specs.declared.transition.Phase.{Phase}
+use Rattle.style_data.specs.declared.transition.Phase.TheVariants.{Idle, Before, Active, After}
 use Rattle.transition_start.specs.Phase.{phase_of}
 use Rattle.transcript_cli.specs.declared.event.EventKind.{EventKind}
 use Rattle.transcript_cli.specs.declared.event.EventKind.TheVariants.{Run, Start, End}
@@ -34,33 +34,33 @@ kinds_between Active Active = []
 kinds_between After p = []
 
 -- the part of the active duration that had passed when the transition was created
-abbrev pub elapsed_at_creation : Running → ℤ
+abbrev pub elapsed_at_creation : Transition → ℤ
 elapsed_at_creation r = int_min (int_max (r.created.0 -ℤ r.start.0) (pos 0)) (r.end.0 -ℤ r.start.0)
 
-abbrev pub elapsed_of : Running → EventKind → ℤ
+abbrev pub elapsed_of : Transition → EventKind → ℤ
 elapsed_of r Run = elapsed_at_creation r
 elapsed_of r Start = elapsed_at_creation r
 elapsed_of r End = r.end.0 -ℤ r.start.0
 
-abbrev pub scheduled_of : Running → EventKind → ℤ
+abbrev pub scheduled_of : Transition → EventKind → ℤ
 scheduled_of r Run = r.created.0
 scheduled_of r Start = int_max r.created.0 r.start.0
 scheduled_of r End = int_max r.created.0 r.end.0
 
-abbrev pub event_of : Running → EventKind → Event
+abbrev pub event_of : Transition → EventKind → Event
 event_of r kind = record { kind = kind; elapsed = elapsed_of r kind; scheduled = scheduled_of r kind; generation = r.generation }
 
 -- the events of a running transition at a tick
-abbrev pub events_of : Running → ℤ → List Event
+abbrev pub events_of : Transition → ℤ → List Event
 events_of r t = map (event_of r) (kinds_between r.seen (phase_of r t))
 
 -- the events of an element at a tick
-abbrev pub events_at : Option Running → ℤ → List Event
+abbrev pub events_at : Option Transition → ℤ → List Event
 events_at None t = []
 events_at (Some r) t = events_of r t
 
 -- what a tick leaves of a running transition: it is completed from its end on, and else its phase is kept as seen
-abbrev pub after_tick : Entry → ℤ → Option Running → Entry
+abbrev pub after_tick : Entry → ℤ → Option Transition → Entry
 after_tick e t None = e
 after_tick e t (Some r) =
     if int_le r.end.0 t then record e { running = None; completed = Some (record { to = r.to }) }

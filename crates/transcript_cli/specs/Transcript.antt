@@ -3,6 +3,8 @@ use Rattle.std.specs.Prelude.{ℕ, ◌+◌, ℤ, Bool, true, false, ◌||◌, Li
 use Rattle.std.specs.Option.{option_map_or}
 use Rattle.fix_num.specs.Print.{text_of}
 use Rattle.text_io.specs.Lines.{lines_of}
+use Rattle.value_print.specs.Printed.{shown}
+use Rattle.value_types.specs.declared.value.Value.{Value}
 use Rattle.transcript_cli.specs.declared.event.EventKind.{EventKind}
 use Rattle.transcript_cli.specs.declared.event.EventKind.TheVariants.{Run, Start, End}
 use Rattle.transcript_cli.specs.declared.refusal.Refusal.{Refusal}
@@ -31,8 +33,8 @@ unfoldable pub event_line : ℕ → Event → List ℕ
 event_line n e = event_name n e.kind ++ text_of 6 e.elapsed ++ codes "\n"
 
 -- `value N opacity V`
-unfoldable pub value_line : ℕ → ℤ → List ℕ
-value_line n v = codes "value " ++ decimal n ++ codes " opacity " ++ text_of 6 v ++ codes "\n"
+unfoldable pub value_line : ℕ → Value → List ℕ
+value_line n v = codes "value " ++ decimal n ++ codes " opacity " ++ shown v ++ codes "\n"
 
 -- `refused L R`
 unfoldable pub refused_line : ℕ → Refusal → List ℕ
@@ -47,7 +49,7 @@ frame_piece w = option_map_or (λ n. flat_map (event_line n) (events_of_frame w)
 -- what an accepted command writes
 abbrev pub output_of : World → Command → List ℕ
 output_of w Frame = frame_piece w
-output_of w (Get n) = value_line n w.entry.now.0
+output_of w (Get n) = value_line n w.entry.now
 output_of w Blank = []
 output_of w (Add n tag) = []
 output_of w (Style n text declared) = []

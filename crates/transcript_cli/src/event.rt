@@ -1,14 +1,15 @@
 //! The events of a running transition.
-ghost use Rattle.std.specs.Prelude.{◌≡◌, ◌++◌, pos, OnOk};
+ghost use Rattle.std.specs.Prelude.{◌≡◌, ◌++◌, ◌-ℤ◌, pos, codes, OnOk};
+ghost use Rattle.fix_num.specs.Print.{text_of};
 ghost use Rattle.std.specs.Int.{int_max, int_min};
-ghost use Rattle.transition_start.specs.Bounds.{IsKept};
+ghost use Rattle.style_data.specs.Transitions.{IsTransition};
 ghost use Rattle.transcript_cli.specs.Tick.{elapsed_at_creation, elapsed_of, event_of, kinds_between};
 ghost use Rattle.transcript_cli.specs.Transcript.{event_line, event_name, kind_text};
 
 use fix_num::print_fix;
 use itoa::Buffer;
 use std::alloc::AllocError;
-use transition_start::{Phase, Running};
+use style_data::{Phase, Running, Transition};
 
 /// The kind of a transition event (CSS Transitions Level 1, section 6).
 #[derive(Clone, Copy, Debug, PartialEq, Eq)]
@@ -34,23 +35,31 @@ pub(crate) fn kinds_between(seen: Phase, now: Phase) -> &'static [EventKind]
 }
 
 /// The elapsed time of an event, in microseconds.
-fn elapsed(r: &Running, kind: EventKind) -> i64
-    requires { IsKept r.now }
-    ensures { result ≡ elapsed_of r.now kind }
+fn elapsed(r: Running, kind: EventKind) -> i64
+    ensures { result ≡ elapsed_of r kind }
 {
+    let r = r.get();
     match kind {
         EventKind::Run => elapsed_at_creation(r),
         EventKind::Start => elapsed_at_creation(r),
-        EventKind::End => r.end.0 - r.start.0,
+        EventKind::End => active_duration(r),
     }
 }
 
-/// The part of the active duration that had passed when the transition was created.
-fn elapsed_at_creation(r: &Running) -> i64
-    requires { IsKept r.now }
-    ensures { result ≡ elapsed_at_creation r.now }
+/// How long the transition lasts behind its delay.
+fn active_duration(r: Transition) -> i64
+    requires { IsTransition r }
+    ensures { result ≡ r.end.0 -ℤ r.start.0 }
 {
-    capped(r.created.0 - r.start.0, r.end.0 - r.start.0)
+    r.end.0 - r.start.0
+}
+
+/// The part of the active duration that had passed when the transition was created.
+fn elapsed_at_creation(r: Transition) -> i64
+    requires { IsTransition r }
+    ensures { result ≡ elapsed_at_creation r }
+{
+    capped(r.created.0 - r.start.0, active_duration(r))
 }
 
 /// The time, at least 0 and at most the duration.
@@ -83,19 +92,25 @@ fn push_name(piece: &mut Vec<u8>, n: u32, kind: EventKind) -> Result<(), AllocEr
     Ok(())
 }
 
+/// Appends `event N transitionKIND opacity ELAPSED`, the elapsed time given in microseconds.
+fn push_line(piece: &mut Vec<u8>, n: u32, kind: EventKind, elapsed: i64) -> Result<(), AllocError>
+    ensures { OnOk result (piece.new.items ≡ piece.old.items ++ (event_name n kind ++ text_of 6 elapsed ++ codes "\n")) }
+{
+    push_name(piece, n, kind)?;
+    print_fix(piece, elapsed, 6)?;
+    piece.extend_from_slice(b"\n")?;
+    Ok(())
+}
+
 /// Appends the line of an event of element `n`.
 #[tactic(auto, unfolding(crate::specs::Transcript::event_line))]
 pub(crate) fn push_event(
     piece: &mut Vec<u8>,
     n: u32,
-    r: &Running,
+    r: Running,
     kind: EventKind,
 ) -> Result<(), AllocError>
-    requires { IsKept r.now }
-    ensures { OnOk result (piece.new.items ≡ piece.old.items ++ event_line n (event_of r.now kind)) }
+    ensures { OnOk result (piece.new.items ≡ piece.old.items ++ event_line n (event_of r kind)) }
 {
-    push_name(piece, n, kind)?;
-    print_fix(piece, elapsed(r, kind), 6)?;
-    piece.extend_from_slice(b"\n")?;
-    Ok(())
+    push_line(piece, n, kind, elapsed(r, kind))
 }

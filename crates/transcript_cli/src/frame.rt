@@ -1,6 +1,9 @@
 //! Frames: a tick, its events, and a style change event (CSS Transitions Level 1, section 3).
 ghost use Rattle.std.specs.Prelude.{◌≡◌, ◌+◌, ◌-◌, ◌^◌, ◌<◌, ◌++◌, IfSome, IsSomeAnd, OnOk, flat_map, map, None, Some};
-ghost use Rattle.transition_start.specs.Bounds.{IsKept, IsMatch, IsOpacity, IsTime};
+ghost use Rattle.style_data.specs.Kept.{IsKeptFor};
+ghost use Rattle.style_data.specs.Transitions.{IsMoment};
+ghost use Rattle.value_types.specs.Validity.{IsValid};
+ghost use Rattle.value_types.specs.declared.property.PropertyId.TheVariants.{Opacity};
 ghost use Rattle.transcript_cli.specs.Frame.{after_frame, after_style_change, after_tick_of, entry_after, match_of, opacity_at};
 ghost use Rattle.transcript_cli.specs.Sound.{IsDeclared, IsEntry, IsSound};
 ghost use Rattle.transcript_cli.specs.Tick.{event_of, events_of, ticked};
@@ -9,9 +12,11 @@ ghost use Rattle.transcript_cli.specs.Transcript.{event_line, frame_piece};
 use crate::declared::Declared;
 use crate::event::{EventKind, kinds_between, push_event};
 use crate::world::{Entry, World};
-use fix_num::{Fix, Micros};
+use fix_num::Micros;
 use std::alloc::AllocError;
-use transition_start::{Completed, Easing, Match, Running, decide, phase_at, value_at};
+use style_data::{Completed, Match, MatchedItem, Running, Transition};
+use transition_start::{decide, phase_at, value_at};
+use value_types::{Easing, PropertyId, Value};
 
 /// A frame at the world's time: appends the events of its tick, and restyles the element.
 #[tactic(auto, unfolding(crate::specs::Frame::after_frame))]
@@ -39,18 +44,22 @@ fn push_events(world: &World, piece: &mut Vec<u8>) -> Result<(), AllocError>
     };
     match &world.entry.running {
         None => Ok(()),
-        Some(r) => push_kinds(piece, n, r, kinds_between(r.seen, phase_at(r, world.time))),
+        Some(r) => push_kinds(
+            piece,
+            n,
+            *r,
+            kinds_between(r.get().seen, phase_at(r, world.time)),
+        ),
     }
 }
 
 fn push_kinds(
     piece: &mut Vec<u8>,
     n: u32,
-    r: &Running,
+    r: Running,
     kinds: &[EventKind],
 ) -> Result<(), AllocError>
-    requires { IsKept r.now }
-    ensures { OnOk result (piece.new.items ≡ piece.old.items ++ flat_map (event_line n) (map (event_of r.now) kinds.now)) }
+    ensures { OnOk result (piece.new.items ≡ piece.old.items ++ flat_map (event_line n) (map (event_of r) kinds.now)) }
 {
     for kind in kinds {
         push_event(piece, n, r, *kind)?;
@@ -73,9 +82,10 @@ fn ticked(entry: Entry, t: Micros) -> Entry
     ensures sound { IsEntry result }
     ensures same_end { IfSome result.running (λ now. IsSomeAnd entry.running (λ before. now.to ≡ before.to)) }
 {
-    let Some(r) = entry.running else {
+    let Some(running) = entry.running else {
         return entry;
     };
+    let r = running.get();
     if r.end.0 <= t.0 {
         return Entry {
             running: None,
@@ -83,9 +93,9 @@ fn ticked(entry: Entry, t: Micros) -> Entry
             ..entry
         };
     }
-    let seen = phase_at(&r, t);
+    let seen = phase_at(&running, t);
     Entry {
-        running: Some(Running { seen, ..r }),
+        running: Some(Running::new(Transition { seen, ..r })),
         ..entry
     }
 }
@@ -125,6 +135,7 @@ fn restyled(world: &World, generation: u32) -> Entry
     let before = opacity_at(entry.declared, entry.running, world.time);
     let item = matched(world.style);
     let decision = decide(
+        PropertyId::Opacity,
         entry.running.as_ref(),
         entry.completed.as_ref(),
         before,
@@ -144,15 +155,15 @@ fn restyled(world: &World, generation: u32) -> Entry
 }
 
 /// The opacity at time `t` under these declarations and this transition.
-fn opacity_at(declared: Declared, running: Option<Running>, t: Micros) -> Fix
+fn opacity_at(declared: Declared, running: Option<Running>, t: Micros) -> Value
     requires declared { IsDeclared declared }
-    requires kept { IfSome running IsKept }
-    requires time { IsTime t.0 }
+    requires kept { IfSome running (IsKeptFor Opacity) }
+    requires time { IsMoment t.0 }
     ensures value { result ≡ opacity_at declared running t.0 }
-    ensures valid { IsOpacity result }
+    ensures valid { IsValid Opacity result }
 {
     match running {
-        Some(r) => value_at(&r, t),
+        Some(r) => value_at(PropertyId::Opacity, &r, t),
         None => declared.opacity,
     }
 }
@@ -160,12 +171,11 @@ fn opacity_at(declared: Declared, running: Option<Running>, t: Micros) -> Fix
 /// The matching item of opacity.
 fn matched(declared: Declared) -> Match
     requires { IsDeclared declared }
-    ensures value { result ≡ match_of declared }
-    ensures bounds { IsMatch result }
+    ensures { result ≡ match_of declared }
 {
-    Match {
+    Match::new(MatchedItem {
         duration: declared.duration,
         delay: Micros(0),
         easing: Easing::Linear,
-    }
+    })
 }

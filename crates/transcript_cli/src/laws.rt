@@ -1,11 +1,11 @@
 //! What the definitions say of every script, as laws.
-ghost use Rattle.std.specs.Prelude.{◌≡◌, ◌⊎◌, ℕ, ◌+◌, true, ◌||◌, List, [], ◌++◌, length, flat_map, Option, Some, IsSome};
+ghost use Rattle.std.specs.Prelude.{◌≡◌, ◌⊎◌, ℕ, ◌+◌, true, false, ◌||◌, List, [], ◌++◌, length, flat_map, Option, Some, IsSome};
 ghost use Rattle.transcript_cli.specs.declared.world.World.{World};
-ghost use Rattle.transcript_cli.specs.Command.{Frame};
+ghost use Rattle.transcript_cli.specs.Command.{Frame, Get};
 ghost use Rattle.transcript_cli.specs.Frame.{after_frame};
 ghost use Rattle.transcript_cli.specs.Laws.{AreOfOne, HasNoFrame, events_from, events_of_command, of_generation, opacity_after_frame};
 ghost use Rattle.transcript_cli.specs.Line.{command_of};
-ghost use Rattle.transcript_cli.specs.Transcript.{answer_of, event_line, refuses_from, transcript_from, world_from};
+ghost use Rattle.transcript_cli.specs.Transcript.{answer_of, event_line, refuses_from, transcript_from, value_line, world_from};
 ghost use Rattle.transcript_cli.specs.World.{new_world};
 
 /// A transcript goes by parts: it is that of the first lines, and then that of the others from the world
@@ -26,6 +26,12 @@ pub fn refused_changes_nothing()
 pub fn events_are_written()
     ensures { (w : World) (n k : ℕ) (line : List ℕ) → w.root ≡ Some k → command_of line ≡ Some Frame
         → (answer_of w n (Some line)).piece ≡ flat_map (event_line k) (events_of_command w (command_of line)) }
+{}
+
+/// A `get` that isn't refused writes the element's opacity.
+pub fn get_writes_the_opacity()
+    ensures { (w : World) (n k : ℕ) (line : List ℕ) → command_of line ≡ Some (Get k) → (answer_of w n (Some line)).refused ≡ false
+        → (answer_of w n (Some line)).piece ≡ value_line k w.entry.now }
 {}
 
 /// Until the next frame an element's opacity stays that at the time of the last one: the value of the

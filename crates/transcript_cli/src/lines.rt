@@ -4,19 +4,20 @@ ghost use Rattle.transcript_cli.specs.Refusal.{reason_of};
 ghost use Rattle.transcript_cli.specs.Transcript.{refused_line, value_line};
 
 use crate::refusal::{Refusal, reason};
-use fix_num::{Fix, print_fix};
 use itoa::Buffer;
 use std::alloc::AllocError;
+use value_print::print_value;
+use value_types::{PropertyId, Value};
 
 /// Appends `value N opacity V`.
 #[tactic(auto, unfolding(crate::specs::Transcript::value_line))]
-pub(crate) fn push_value(piece: &mut Vec<u8>, n: u32, value: Fix) -> Result<(), AllocError>
-    ensures { OnOk result (piece.new.items ≡ piece.old.items ++ value_line n value.0) }
+pub(crate) fn push_value(piece: &mut Vec<u8>, n: u32, value: Value) -> Result<(), AllocError>
+    ensures { OnOk result (piece.new.items ≡ piece.old.items ++ value_line n value) }
 {
     piece.extend_from_slice(b"value ")?;
     piece.extend_from_slice(Buffer::new().format(n).as_bytes())?;
     piece.extend_from_slice(b" opacity ")?;
-    print_fix(piece, value.0, 6)?;
+    print_value(piece, PropertyId::Opacity, value)?;
     piece.extend_from_slice(b"\n")?;
     Ok(())
 }

@@ -4,7 +4,10 @@ ghost use Rattle.std.specs.Prelude.{◌≡◌, ◌≤◌, length, take_while, On
 ghost use Rattle.std.specs.List.{list_all};
 ghost use Rattle.std.specs.Bool.{OnTrue};
 ghost use Rattle.std.specs.Str.{IsAscii};
-ghost use Rattle.transition_start.specs.Bounds.{IsOpacity, IsTime};
+ghost use Rattle.style_data.specs.Transitions.{IsMoment};
+ghost use Rattle.value_types.specs.Validity.{IsValid};
+ghost use Rattle.value_types.specs.declared.property.PropertyId.TheVariants.{Opacity};
+ghost use Rattle.value_types.specs.declared.value.Value.TheVariants as value;
 ghost use Rattle.transcript_cli.specs.Affix.{behind_prefix, before_suffix};
 ghost use Rattle.transcript_cli.specs.Sound.{IsDeclared};
 ghost use Rattle.transcript_cli.specs.Style.{declarations_of, with_value, transition_of, opacity_of, duration_of, initial_declared, is_value_byte};
@@ -12,13 +15,14 @@ ghost use Rattle.transcript_cli.specs.Style.{declarations_of, with_value, transi
 use crate::declared::Declared;
 use crate::number::read_not_negative;
 use fix_num::{Fix, Micros};
+use value_types::Value;
 
 /// With no style attribute: the initial opacity, and no time to transition in.
 pub(crate) fn initial_declared() -> Declared
     ensures { result ≡ initial_declared }
 {
     Declared {
-        opacity: Fix(1_000_000),
+        opacity: Value::Number(Fix(1_000_000)),
         duration: Micros(0),
     }
 }
@@ -59,7 +63,7 @@ fn read_value(text: &[u8]) -> Option<Declared>
         return None;
     };
     Some(Declared {
-        opacity: Fix(opacity),
+        opacity: Value::Number(Fix(opacity)),
         duration: Micros(duration),
     })
 }
@@ -76,7 +80,7 @@ fn value_length(text: &[u8]) -> usize
 #[tactic(auto, unfolding(crate::specs::Style::transition_of))]
 fn read_transition(text: &[u8]) -> Option<i64>
     ensures value { result ≡ transition_of text.now }
-    ensures bounds { IfSome result IsTime }
+    ensures bounds { IfSome result IsMoment }
 {
     if text.is_empty() {
         return Some(0);
@@ -92,14 +96,14 @@ fn read_transition(text: &[u8]) -> Option<i64>
 
 fn opacity(text: &[u8]) -> Option<i64>
     ensures value { result ≡ opacity_of text.now }
-    ensures bounds { IfSome result (λ v. IsOpacity (record { 0 = v })) }
+    ensures bounds { IfSome result (λ v. IsValid Opacity (value.Number (record { 0 = v }))) }
 {
     read_not_negative(text, 6, 1_000_000)
 }
 
 fn duration(text: &[u8]) -> Option<i64>
     ensures value { result ≡ duration_of text.now }
-    ensures bounds { IfSome result IsTime }
+    ensures bounds { IfSome result IsMoment }
 {
     read_not_negative(text, 6, 1_000_000_000_000_000)
 }

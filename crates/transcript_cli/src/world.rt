@@ -1,8 +1,9 @@
 //! The world that a script edits.
 use crate::declared::Declared;
 use doc_tree::Tree;
-use fix_num::{Fix, Micros};
-use transition_start::{Completed, Running};
+use fix_num::Micros;
+use style_data::{Completed, Running};
+use value_types::Value;
 
 /// What is kept of an element from one style change event to the next.
 #[derive(Clone, Copy, Debug)]
@@ -12,7 +13,7 @@ pub(crate) struct Entry {
     /// The declarations of the last style change event.
     pub declared: Declared,
     /// The opacity that it gave.
-    pub now: Fix,
+    pub now: Value,
     pub running: Option<Running>,
     pub completed: Option<Completed>,
 }

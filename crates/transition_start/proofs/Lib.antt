@@ -1,3 +1,4 @@
-pub mod Arithmetic
+pub mod Cases
 pub mod Ends
 pub mod Rules
+pub mod Times

@@ -1,19 +1,20 @@
 -- Which rule applies to a change.
 use Rattle.std.proofs.Common.{◌≡◌, ℕ, ◌<◌, refl, suc, arith, ap, sym, ◌∙◌, inl, inr, subst}
-use Rattle.std.specs.Prelude.{ℤ, pos, ◌≤ℤ◌, ◌<ℤ◌, ◌≢◌, int_lt, int_le, Bool, true, false, not, ◌&&◌, ◌==◌, if◌then◌else◌, cond, Option, Some, None, IsNone, IsSomeAnd, IfSome, is_none, ◌⊎◌, ◌↔◌, ⊤}
-use Rattle.std.specs.Ordering.{int_eq}
+use Rattle.std.specs.Prelude.{ℤ, pos, ◌≤ℤ◌, ◌<ℤ◌, ◌≢◌, int_lt, int_le, Bool, true, false, not, ◌&&◌, ◌==◌, if◌then◌else◌, cond, Option, Some, None, IsNone, IsSomeAnd, IfSome, IsFalse, IsTrue, is_none, ◌||◌, ◌⊎◌, ◌↔◌, ⊤}
 use Rattle.std.specs.Option.{option_map_or}
 use Rattle.std.specs.Bool.{Decides as DecidesTest}
 use Rattle.std.proofs.lemmas.Bool.{cases_lt, false≢true}
-use Rattle.std.proofs.lemmas.Bool.Decides.{Decides-int_eq, Decides-and, Decides-like, Decides-not}
+use Rattle.std.proofs.lemmas.Bool.Decides.{Decides-and, Decides-not, Decides-or}
 use Rattle.std.proofs.lemmas.Int.{ints}
-use Rattle.fix_num.specs.declared.units.Fix.{Fix}
-use Rattle.transition_start.specs.declared.matched.Match.{Match}
-use Rattle.transition_start.specs.declared.transition.Running.{Running}
-use Rattle.transition_start.specs.declared.transition.Completed.{Completed}
-use Rattle.transition_start.specs.declared.starting.Decision.{Decision}
+use Rattle.interpolation.proofs.EqualityLemmas.{same_tells}
+use Rattle.interpolation.specs.Equality.{is_same}
+use Rattle.interpolation.specs.Interpolation.{is_interpolable}
+use Rattle.style_data.specs.declared.decision.Decision.{Decision}
+use Rattle.style_data.specs.declared.transition.Completed.{Completed}
+use Rattle.style_data.specs.declared.transition.Transition.{Transition}
+use Rattle.value_types.specs.declared.value.Value.{Value}
 use Rattle.transition_start.specs.Sampling.{sample_of}
-use Rattle.transition_start.specs.Decision.{Change, Rule, Unmatched, Starts, DropsCompleted, CancelsThere, CancelsAtOnce, Reverses, Replaces, Keeps, Wants, Applies, Decides, rank, outcome, rule_of, decision_of, is_same, combined_duration, wanted, runs_elsewhere, completed_elsewhere, NotCompletedTo, RunsElsewhere}
+use Rattle.transition_start.specs.Decision.{Change, Rule, Unmatched, Starts, DropsCompleted, CancelsThere, CancelsAtOnce, Reverses, Replaces, Keeps, Wants, Applies, Decides, rank, outcome, rule_of, decision_of, combined_duration, wanted, runs_elsewhere, completed_elsewhere, has_time, HasTime, NotCompletedTo, RunsElsewhere}
 
 -- the rule of a rank
 rule_at : ℕ → Rule
@@ -44,13 +45,6 @@ only_one x a b p q = elim (cases_lt (rank a) (rank b)) [
 
 -- ---- the tests tell what the rules want
 
-fix : ℤ → Fix
-fix v = record { 0 = v }
-
-same_tells : (a b : Fix) → DecidesTest (is_same a b) (a ≡ b)
-unfolding fix
-same_tells a b = Decides-like (int_eq a.0 b.0) (ap fix) (ap (λ (v : Fix). v.0)) (Decides-int_eq a.0 b.0)
-
 some_tells : {T : Type 0} (o : Option T) (p : T → Bool) (P : T → Type 0) → ((x : T) → DecidesTest (p x) (P x)) → DecidesTest (option_map_or p o false) (IsSomeAnd o P)
 some_tells None p P h = (λ e. absurd (false≢true e), λ k. absurd k)
 some_tells (Some x) p P h = h x
@@ -61,12 +55,12 @@ none_tells (Some x) = (λ e. absurd (false≢true e), λ k. absurd (false≢true
 
 any_tells : (x : Change) → DecidesTest (completed_elsewhere x true) (NotCompletedTo x)
 any_tells x = go x.completed where
-  go : (o : Option Completed) → DecidesTest (option_map_or (λ c. not (is_same c.to x.after)) o true) (IfSome o (λ c. c.to ≢ x.after))
+  go : (o : Option Completed) → DecidesTest (option_map_or (λ c. not (is_same c.to x.event.after)) o true) (IfSome o (λ c. c.to ≢ x.event.after))
   go None = (λ _. tt, λ _. refl)
-  go (Some c) = Decides-not _ (same_tells c.to x.after)
+  go (Some c) = Decides-not _ (same_tells c.to x.event.after)
 
-runs_tells : (x : Change) (p : Running → Bool) (P : Running → Type 0) → ((r : Running) → DecidesTest (p r) (P r)) → DecidesTest (runs_elsewhere x p) (RunsElsewhere x P)
-runs_tells x p P h = some_tells x.running _ _ (λ r. Decides-and _ _ (Decides-not _ (same_tells r.to x.after)) (h r))
+runs_tells : (x : Change) (p : Transition → Bool) (P : Transition → Type 0) → ((r : Transition) → DecidesTest (p r) (P r)) → DecidesTest (runs_elsewhere x p) (RunsElsewhere x P)
+runs_tells x p P h = some_tells x.running _ _ (λ r. Decides-and _ _ (Decides-not _ (same_tells r.to x.event.after)) (h r))
 
 lt_tells : (a b : ℤ) → DecidesTest (int_lt a b) (a <ℤ b)
 lt_tells a b = (λ e. grind (arith, ints), λ h. grind (arith, ints))
@@ -74,14 +68,28 @@ lt_tells a b = (λ e. grind (arith, ints), λ h. grind (arith, ints))
 le_tells : (a b : ℤ) → DecidesTest (int_le a b) (a ≤ℤ b)
 le_tells a b = (λ e. grind (arith, ints), λ h. grind (arith, ints))
 
+time_tells : (x : Change) → DecidesTest (has_time x) (HasTime x)
+time_tells x = some_tells x.matched _ _ (λ m. lt_tells (pos 0) (combined_duration m))
+
+itself : (b : Bool) → DecidesTest b (IsTrue b)
+itself b = (λ e. e, λ e. e)
+
+not_itself : (b : Bool) → DecidesTest (not b) (IsFalse b)
+not_itself true = (λ e. absurd (false≢true e), λ e. absurd (false≢true (sym e)))
+not_itself false = (λ _. refl, λ _. refl)
+
+current : Change → Transition → Value
+current x r = sample_of x.event.property r x.event.time.0
+
 wanted_tells : (x : Change) (rule : Rule) → DecidesTest (wanted x rule) (Wants x rule)
+unfolding current
 wanted_tells x Unmatched = none_tells x.matched
-wanted_tells x Starts = Decides-and _ _ (some_tells x.matched _ _ (λ m. lt_tells (pos 0) (combined_duration m)))
-    (Decides-and _ _ (none_tells x.running) (Decides-and _ _ (Decides-not _ (same_tells x.before x.after)) (any_tells x)))
-wanted_tells x DropsCompleted = Decides-and _ _ (none_tells x.running) (some_tells x.completed _ _ (λ c. Decides-not _ (same_tells c.to x.after)))
-wanted_tells x CancelsThere = runs_tells x _ _ (λ r. same_tells (sample_of r x.time) x.after)
+wanted_tells x Starts = Decides-and _ _ (none_tells x.running) (Decides-and _ _ (Decides-not _ (same_tells x.event.before x.event.after))
+    (Decides-and _ _ (itself (is_interpolable x.event.property x.event.before x.event.after)) (Decides-and _ _ (any_tells x) (time_tells x))))
+wanted_tells x DropsCompleted = Decides-and _ _ (none_tells x.running) (some_tells x.completed _ _ (λ c. Decides-not _ (same_tells c.to x.event.after)))
+wanted_tells x CancelsThere = runs_tells x _ _ (λ r. Decides-or _ _ (same_tells (current x r) x.event.after) (not_itself (is_interpolable x.event.property (current x r) x.event.after)))
 wanted_tells x CancelsAtOnce = runs_tells x _ _ (λ r. some_tells x.matched _ _ (λ m. le_tells (combined_duration m) (pos 0)))
-wanted_tells x Reverses = runs_tells x _ _ (λ r. same_tells r.adjusted x.after)
+wanted_tells x Reverses = runs_tells x _ _ (λ r. same_tells r.adjusted x.event.after)
 wanted_tells x Replaces = runs_tells x _ _ (λ r. (λ _. tt, λ _. refl))
 wanted_tells x Keeps = (λ _. tt, λ _. refl)
 

@@ -1,5 +1,3 @@
-pub mod Bounds
 pub mod Decision
-pub mod Interpolation
 pub mod Phase
 pub mod Sampling

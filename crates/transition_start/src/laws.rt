@@ -1,7 +1,8 @@
 //! What the definitions say, as laws over every value.
 ghost use Rattle.std.specs.Prelude.{◌≡◌, ◌↔◌, ℤ, ◌≤ℤ◌, ◌<ℤ◌};
-ghost use Rattle.transition_start.specs.declared.transition.Running.{Running};
-ghost use Rattle.transition_start.specs.declared.starting.Decision.{Decision};
+ghost use Rattle.style_data.specs.declared.decision.Decision.{Decision};
+ghost use Rattle.style_data.specs.declared.transition.Transition.{Transition};
+ghost use Rattle.value_types.specs.declared.property.PropertyId.{PropertyId};
 ghost use Rattle.transition_start.specs.Decision.{Applies, Change, Decides, Rule, decision_of, rule_of};
 ghost use Rattle.transition_start.specs.Sampling.{sample_of};
 
@@ -19,6 +20,6 @@ pub fn one_decision()
 
 /// A transition's value is its start value up to its start, and its end value from its end on.
 pub fn starts_and_ends_there()
-    ensures start { (r : Running) (t : ℤ) → t ≤ℤ r.start.0 → r.start.0 <ℤ r.end.0 → sample_of r t ≡ r.from }
-    ensures end { (r : Running) (t : ℤ) → r.end.0 ≤ℤ t → sample_of r t ≡ r.to }
+    ensures start { (p : PropertyId) (r : Transition) (t : ℤ) → t ≤ℤ r.start.0 → r.start.0 <ℤ r.end.0 → sample_of p r t ≡ r.from }
+    ensures end { (p : PropertyId) (r : Transition) (t : ℤ) → r.end.0 ≤ℤ t → sample_of p r t ≡ r.to }
 {}

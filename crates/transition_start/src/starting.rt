@@ -1,76 +1,134 @@
 //! The rules by which a transition starts or stays.
-ghost use Rattle.std.specs.Prelude.{◌≡◌, ◌⊎◌, IsSome, IsNone, IfSome, None, pos, ◌<ℤ◌, option_copied};
-ghost use Rattle.transition_start.specs.Bounds.{IsKept, IsMatch, IsOpacity, IsTime};
-ghost use Rattle.transition_start.specs.Decision.{decision_of, combined_duration, left_with, started, starting};
+ghost use Rattle.std.specs.Prelude.{◌≡◌, ◌⊎◌, IsNone, IsTrue, IfSome, None, Some, ◌+ℤ◌, option_copied, option_map};
+ghost use Rattle.interpolation.specs.Interpolation.{is_interpolable};
+ghost use Rattle.style_data.specs.Kept.{IsCompletedFor, IsKeptFor};
+ghost use Rattle.style_data.specs.Transitions.{IsMatchedItem, IsMoment};
+ghost use Rattle.value_types.specs.Validity.{IsValid};
+ghost use Rattle.transition_start.specs.Decision.{IsChange, cancelled, changed, combined_duration, decision_of, left_with, property_change, reversed, started};
+ghost use Rattle.transition_start.specs.Sampling.{sample_of};
 
-use crate::matched::Match;
-use crate::transition::{Completed, Gone, Phase, Running};
-use fix_num::{Bill, Fix, Micros};
-
-/// What a style change event leaves of a property's transitions: the running one, the completed one, and
-/// the one that it cancelled.
-#[derive(Clone, Copy, Debug, PartialEq, Eq)]
-pub struct Decision {
-    pub running: Option<Running>,
-    pub completed: Option<Completed>,
-    pub gone: Option<Gone>,
-}
+use crate::cancel::cancelled;
+use crate::change::PropertyChange;
+use crate::sample::{output_at, value_at};
+use fix_num::{Bill, Micros};
+use interpolation::{able, same};
+use reversing::{reversed_times, shortened};
+use style_data::{Completed, Decision, Match, MatchedItem, Phase, Running, Transition};
+use value_types::{PropertyId, Value};
 
 /// Decides, for one property, what a style change event at time `t` makes of its transitions, by the rules
-/// of CSS Transitions Level 1, section 3. A property never has both a running and a completed transition.
-/// In this stage there is always a matching item, and a running transition's end value is the after-change
-/// value.
+/// of CSS Transitions Level 1, section 3: from the running and the completed one that it had, never both, the
+/// before-change and the after-change value, and the matching item. A new transition gets the generation and
+/// the tree position. What then runs ends at the after-change value.
 #[tactic(auto, unfolding(crate::specs::Decision::decision_of, crate::specs::Decision::rule_of))]
 pub fn decide(
+    p: PropertyId,
     running: Option<&Running>,
     completed: Option<&Completed>,
-    before: Fix,
-    after: Fix,
+    before: Value,
+    after: Value,
     matched: Option<Match>,
     t: Micros,
     generation: u32,
     position: u32,
 ) -> Decision
     requires apart { IsNone running ⊎ IsNone completed }
-    requires matches { IsSome matched }
-    requires arrives { IfSome running (λ r. r.now.to ≡ after) }
-    requires kept { IfSome running (λ r. IsKept r.now) }
-    requires item { IfSome matched IsMatch }
-    requires time { IsTime t.0 }
-    requires values { IsOpacity before × IsOpacity after }
-    ensures decision { result ≡ decision_of (record {
-      running = option_copied running.entry;
-      completed = option_copied completed.entry;
-      before = before;
-      after = after;
-      matched = matched;
-      time = t.0;
-      generation = generation;
-      position = position;
-    }) }
-    ensures kept { IfSome result.running IsKept }
-    ensures arrives { IfSome result.running (λ r. r.to ≡ after) }
+    requires running { IfSome running (λ r. IsKeptFor p r.now) }
+    requires completed { IfSome completed (λ c. IsCompletedFor p c.now) }
+    requires before { IsValid p before }
+    requires after { IsValid p after }
+    requires time { IsMoment t.0 }
+    ensures decision { result ≡ decision_of (changed (property_change p before after t.0 generation position) (option_copied running.entry) (option_copied completed.entry) matched) }
+    ensures running { IfSome result.running (IsKeptFor p) }
+    ensures completed { IfSome result.completed (IsCompletedFor p) }
     ensures apart { IsNone result.running ⊎ IsNone result.completed }
+    ensures arrives { IfSome result.running (λ r. r.to ≡ after) }
 {
-    let item = matched.unwrap();
-    if let Some(current) = running {
-        return left_with(Some(*current), completed.copied());
+    let change = PropertyChange {
+        property: p,
+        before,
+        after,
+        time: t,
+        generation,
+        position,
+    };
+    let Some(matched) = matched else {
+        return unmatched(change, running);
+    };
+    match running {
+        None => without_running(change, completed, matched.get()),
+        Some(r) => with_running(change, *r, matched.get()),
     }
+}
+
+/// Where no item matches: a running transition is cancelled, and a completed one forgotten.
+fn unmatched(change: PropertyChange, running: Option<&Running>) -> Decision
+    requires change { IsChange change }
+    requires kept { IfSome running (λ r. IsKeptFor change.property r.now) }
+    ensures { result ≡ left_with None None (option_map (λ r. cancelled change.property r change.time.0) (option_copied running.entry)) }
+{
+    match running {
+        None => left_with(None, None),
+        Some(r) => in_place_of(change, *r, None),
+    }
+}
+
+/// Rules 1 and 2, where no transition runs.
+#[tactic(auto, unfolding(crate::specs::Decision::decision_of, crate::specs::Decision::rule_of))]
+fn without_running(
+    change: PropertyChange,
+    completed: Option<&Completed>,
+    item: MatchedItem,
+) -> Decision
+    requires change { IsChange change }
+    requires item { IsMatchedItem item }
+    requires completed { IfSome completed (λ c. IsCompletedFor change.property c.now) }
+    ensures decision { result ≡ decision_of (changed change None (option_copied completed.entry) (Some item)) }
+    ensures running { IfSome result.running (IsKeptFor change.property) }
+    ensures completed { IfSome result.completed (IsCompletedFor change.property) }
+    ensures apart { IsNone result.running ⊎ IsNone result.completed }
+    ensures arrives { IfSome result.running (λ r. r.to ≡ change.after) }
+{
     if let Some(done) = completed {
-        if done.to == after {
+        if same(done.to, change.after) {
             return left_with(None, Some(*done));
         }
     }
-    if before == after {
+    if same(change.before, change.after)
+        || !able(change.property, change.before, change.after)
+        || combined_duration(item) <= 0
+    {
         return left_with(None, None);
+    }
+    left_with(Some(started(change, item, change.before)), None)
+}
+
+/// Rules 4.1 to 4.4, where a transition runs.
+#[tactic(auto, unfolding(crate::specs::Decision::decision_of, crate::specs::Decision::rule_of))]
+fn with_running(change: PropertyChange, r: Running, item: MatchedItem) -> Decision
+    requires change { IsChange change }
+    requires item { IsMatchedItem item }
+    requires kept { IsKeptFor change.property r }
+    ensures decision { result ≡ decision_of (changed change (Some r) None (Some item)) }
+    ensures running { IfSome result.running (IsKeptFor change.property) }
+    ensures completed { IsNone result.completed }
+    ensures arrives { IfSome result.running (λ r. r.to ≡ change.after) }
+{
+    let (p, after) = (change.property, change.after);
+    if same(r.get().to, after) {
+        return left_with(Some(r), None);
+    }
+    let current = value_at(p, &r, change.time);
+    if same(current, after) || !able(p, current, after) {
+        return in_place_of(change, r, None);
     }
     if combined_duration(item) <= 0 {
-        return left_with(None, None);
+        return in_place_of(change, r, None);
     }
-    left_with(
-        Some(started(before, after, item, t, generation, position)),
-        None,
-    )
+    if same(r.get().adjusted, after) {
+        return in_place_of(change, r, Some(reversed(change, item, r)));
+    }
+    in_place_of(change, r, Some(started(change, item, current)))
 }
 
 fn left_with(running: Option<Running>, completed: Option<Completed>) -> Decision
@@ -83,34 +141,88 @@ fn left_with(running: Option<Running>, completed: Option<Completed>) -> Decision
     }
 }
 
-/// The matching duration, at least 0, and the matching delay together.
-fn combined_duration(item: Match) -> i64
-    requires { IsMatch item }
+/// The running transition `r` is cancelled, and another may run in its place.
+fn in_place_of(change: PropertyChange, r: Running, running: Option<Running>) -> Decision
+    requires change { IsChange change }
+    requires kept { IsKeptFor change.property r }
+    ensures { result ≡ left_with running None (Some (cancelled change.property r change.time.0)) }
+{
+    Decision {
+        running,
+        completed: None,
+        gone: Some(cancelled(change.property, &r, change.time)),
+    }
+}
+
+/// The matching duration, at least 0, and the matching delay together, in microseconds.
+fn combined_duration(item: MatchedItem) -> i64
+    requires { IsMatchedItem item }
     ensures { result ≡ combined_duration item }
 {
     item.duration.0.max(0) + item.delay.0
 }
 
-fn started(from: Fix, to: Fix, item: Match, t: Micros, generation: u32, position: u32) -> Running
-    requires item { IsMatch item }
-    requires time { IsTime t.0 }
-    requires values { IsOpacity from × IsOpacity to }
-    ensures value { result ≡ started (starting from to item t.0 generation position) item from }
-    ensures kept { IsKept result }
-    ensures arrives { result.to ≡ to }
+/// A transition that starts after the matching delay and lasts the matching duration.
+fn started(change: PropertyChange, item: MatchedItem, from: Value) -> Running
+    requires change { IsChange change }
+    requires item { IsMatchedItem item }
+    requires from { IsValid change.property from }
+    requires way { IsTrue (is_interpolable change.property from change.after) }
+    ensures value { result ≡ started change item from }
+    ensures kept { IsKeptFor change.property result }
+    ensures arrives { result.to ≡ change.after }
 {
-    let start = t.0 + item.delay.0;
-    Running {
+    let (start, end) = times(change.time, item);
+    Running::new(Transition {
         from,
-        to,
+        to: change.after,
         adjusted: from,
-        created: t,
-        start: Micros(start),
-        end: Micros(start + item.duration.0),
+        created: change.time,
+        start,
+        end,
         easing: item.easing,
         factor: Bill(1_000_000_000),
-        generation,
-        position,
+        generation: change.generation,
+        position: change.position,
         seen: Phase::Idle,
-    }
+    })
+}
+
+/// When a transition starts and ends that starts at time `t` and its delay.
+fn times(t: Micros, item: MatchedItem) -> (Micros, Micros)
+    requires time { IsMoment t.0 }
+    requires item { IsMatchedItem item }
+    ensures start { result.0.0 ≡ t.0 +ℤ item.delay.0 }
+    ensures end { result.1.0 ≡ (t.0 +ℤ item.delay.0) +ℤ item.duration.0 }
+{
+    let start = t.0 + item.delay.0;
+    (Micros(start), Micros(start + item.duration.0))
+}
+
+/// A transition that goes back from the current value of `r`, shortened by what that has done (section 3.1).
+fn reversed(change: PropertyChange, item: MatchedItem, r: Running) -> Running
+    requires change { IsChange change }
+    requires item { IsMatchedItem item }
+    requires kept { IsKeptFor change.property r }
+    requires way { IsTrue (is_interpolable change.property (sample_of change.property r change.time.0) change.after) }
+    ensures value { result ≡ reversed change item r }
+    ensures kept { IsKeptFor change.property result }
+    ensures arrives { result.to ≡ change.after }
+{
+    let old = r.get();
+    let factor = shortened(old.factor, output_at(old, change.time));
+    let (start, end) = reversed_times(change.time, item.delay, item.duration, factor);
+    Running::new(Transition {
+        from: value_at(change.property, &r, change.time),
+        to: change.after,
+        adjusted: old.to,
+        created: change.time,
+        start,
+        end,
+        easing: item.easing,
+        factor,
+        generation: change.generation,
+        position: change.position,
+        seen: Phase::Idle,
+    })
 }

@@ -1,15 +1,22 @@
-use Rattle.std.proofs.Common.{◌≡◌, ◌∙◌, ◌*◌, ◌^◌, ◌≤◌, ◌<◌, arith, ap, rules}
-use Rattle.std.specs.Prelude.{ℤ, pos, ◌≤ℤ◌, ◌*ℤ◌, ◌+ℤ◌, FitsSigned, unsigned_abs}
-use Rattle.std.specs.Int.{w64, w128, cast_signed, cast_unsigned}
-use Rattle.std.proofs.lemmas.Int.{ints, to_z-of_z}
-use mir.Val.{SFits}
+use Rattle.std.proofs.Common.{◌*◌, ◌^◌, ◌≤◌, ◌<◌, arith}
+use Rattle.std.specs.Prelude.{ℤ, pos, ◌+ℤ◌, ◌≤ℤ◌, unsigned_abs}
+use Rattle.std.proofs.lemmas.Int.{ints}
 use Rattle.transition_start.proofs.starting.started.Goals as goal
 
-pub returns-clause-value : goal.returns-clause-value
-returns-clause-value c =
-    let t : SFits w64 c.args.t.0 = search rules in
-    let delay : SFits w64 c.args.item.delay.0 = search rules in
-    let duration : SFits w64 c.args.item.duration.0 = search rules in
-    let start : SFits w64 (c.args.t.0 +ℤ c.args.item.delay.0) = search rules in
-    let end : SFits w64 ((c.args.t.0 +ℤ c.args.item.delay.0) +ℤ c.args.item.duration.0) = search rules in
-    simp to_z-of_z
+pub new-requires : goal.new-requires
+new-requires c =
+    let start = c.times.ensures.start in
+    let end = c.times.ensures.end in
+    let early = c.requires.change.time.low in
+    let late = c.requires.change.time.high in
+    let delay = c.requires.item.delay.size in
+    let short = c.requires.item.duration.low in
+    let long = c.requires.item.duration.high in
+    record {
+      created = c.requires.change.time;
+      ordered = omega (arith, ints);
+      start = omega (arith, ints);
+      end = omega (arith, ints);
+      easing = c.requires.item.easing;
+      factor = record { low = omega (arith, ints); high = omega (arith, ints) };
+    }
