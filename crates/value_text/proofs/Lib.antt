@@ -1,4 +1,5 @@
 pub mod ColorLemmas
+pub mod DeclaredLemmas
 pub mod HexLemmas
 pub mod IntegerLemmas
 pub mod KindLemmas

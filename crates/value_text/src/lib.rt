@@ -11,5 +11,5 @@ mod size;
 #[cfg(test)]
 mod tests;
 
-pub use laws::{one_value, reading_is_exact};
+pub use laws::{one_value, reading_is_exact, spelled_is_declared};
 pub use reader::read_value;

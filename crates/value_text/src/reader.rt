@@ -1,8 +1,9 @@
 //! The reader of a property's values.
-ghost use Rattle.std.specs.Prelude.{◌≡◌, map, option_map, All, find};
+ghost use Rattle.std.specs.Prelude.{◌≡◌, map, option_map, All, IfOk, find};
 ghost use Rattle.css_token.specs.TokenLists.{LiesWithin};
 ghost use Rattle.token_parts.specs.Parts.{pieces_of, seen};
 ghost use Rattle.value_types.specs.Table.{takes};
+ghost use Rattle.value_types.specs.Validity.{IsDeclaredFor};
 ghost use Rattle.value_text.specs.Spelling.{IsAnswer};
 ghost use Rattle.value_text.specs.Reading.{Gives, kind_at, kinds_at, reading_of, value_in};
 
@@ -23,6 +24,7 @@ pub fn read_value(
 ) -> Result<Declared, ValueFault>
     requires { All (LiesWithin text.now) tokens.now }
     ensures answer { IsAnswer p (pieces_of text.now tokens.now) result }
+    ensures declared { IfOk result (IsDeclaredFor p) }
     ensures reading { Gives result (reading_of p (pieces_of text.now tokens.now)) }
 {
     let Ok(parts) = parts(alloc, text.as_bytes(), tokens) else {
