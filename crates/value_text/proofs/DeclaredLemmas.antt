@@ -1,6 +1,6 @@
 -- A value that is spelled within its limits is a declared value of the property.
-use Rattle.std.proofs.Common.{◌≡◌, ℕ, ◌+◌, ◌*◌, ◌-◌, ◌^◌, ◌<◌, ◌≤◌, nat_lt, nat_le, refl, arith, ap, subst, sym, ◌∙◌, List, ◌∷◌, [], cond, ◌&&◌, Bool, true, false, IsTrue, Option, Some, None, Result, Ok, Err, ℤ, pos, unsigned_abs}
-use Rattle.std.specs.Prelude.{if◌then◌else◌, ◌≤ℤ◌, IfOk, option_map, codes, ⊤}
+use Rattle.std.proofs.Common.{◌≡◌, ℕ, ◌^◌, ◌<◌, ◌≤◌, refl, arith, ap, subst, sym, List, ◌∷◌, [], cond, Bool, true, false, IsTrue, Option, Some, None, Result, Ok, Err, pos, unsigned_abs}
+use Rattle.std.specs.Prelude.{IfOk, option_map}
 use Rattle.std.specs.List.{list_all}
 use Rattle.std.specs.Char.{is_ascii_hexdigit}
 use Rattle.std.proofs.lemmas.Bool.Decides.{nat_tests}
@@ -8,10 +8,10 @@ use Rattle.std.proofs.lemmas.Int.{ints}
 use Rattle.fix_num.specs.Rounding.{rounded}
 use Rattle.fix_num.specs.declared.units.Fix.{Fix}
 use Rattle.fix_num.proofs.RoundingLemmas.{rounded_size}
-use Rattle.token_parts.specs.Keywords.{look_up, names}
+use Rattle.token_parts.specs.Keywords.{look_up}
 use Rattle.token_parts.specs.Parts.{Piece}
 use Rattle.token_parts.specs.declared.fault.ValueFault.{ValueFault}
-use Rattle.value_types.specs.Table.{is_inherited, range_of, takes}
+use Rattle.value_types.specs.Table.{is_inherited, takes}
 use Rattle.value_types.specs.Validity.{IsAlpha, IsWithinLimit, IsDeclaredFor, IsDeclaredNumberFor, IsInRange, IsSizeFor, declared_range_of, kind_of}
 use Rattle.value_types.specs.declared.declared.Declared.{Declared}
 use Rattle.value_types.specs.declared.declared.Declared.TheVariants as declared

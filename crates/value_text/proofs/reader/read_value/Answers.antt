@@ -1,4 +1,4 @@
-use Rattle.std.proofs.Common.{◌≡◌, ap, ◌∙◌, map, ℕ, List}
+use Rattle.std.proofs.Common.{ap, ◌∙◌, map, ℕ, List}
 use Rattle.token_parts.specs.Parts.{pieces_of, seen}
 use Rattle.value_text.specs.Reading.{reading_of}
 use Rattle.value_text.specs.Spelling.{IsAnswer}
