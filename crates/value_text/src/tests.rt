@@ -7,6 +7,8 @@ use value_types::{Declared, Display, PropertyId, Size, Unit, Visibility};
 
 const ONE: i64 = 1_000_000;
 
+const HALF: i64 = 500_000;
+
 const UNSUPPORTED: Result<Declared, ValueFault> = Err(ValueFault::Unsupported);
 
 const BOUND: Result<Declared, ValueFault> = Err(ValueFault::Bound);
@@ -19,6 +21,10 @@ fn read(rt: &HostRuntime, p: PropertyId, text: &str) -> Result<Declared, ValueFa
         return Err(ValueFault::NoMemory);
     };
     read_value(rt.alloc(), p, text, list.as_slice())
+}
+
+fn number(n: i64) -> Result<Declared, ValueFault> {
+    Ok(Declared::Number(Fix(n)))
 }
 
 fn size(amount: i64, unit: Unit) -> Size {
@@ -72,11 +78,8 @@ fn reads_keywords_and_colors(rt: HostRuntime) -> Result<(), Fail> {
         ),
         (PropertyId::Color, "#F0f", color(255, 0, 255, ONE)),
         (PropertyId::Color, "#f00fa", UNSUPPORTED),
-        (
-            PropertyId::Color,
-            "RGB(+1, 2,255, .5)",
-            color(1, 2, 255, 500_000),
-        ),
+        (PropertyId::Color, "RGB(+1, 2,3)", color(1, 2, 3, ONE)),
+        (PropertyId::Color, "rgba(1,2,3,.5)", color(1, 2, 3, HALF)),
         (PropertyId::Color, "rgb(1, 2, 256)", UNSUPPORTED),
         (PropertyId::Color, "rgb(1, 2, 3, 1.1)", UNSUPPORTED),
     ] {
@@ -100,16 +103,8 @@ fn reads_numbers(rt: HostRuntime) -> Result<(), Fail> {
         (PropertyId::Width, "-1px", UNSUPPORTED),
         (PropertyId::Width, "-1000001px", UNSUPPORTED),
         (PropertyId::Width, "1000001px", BOUND),
-        (
-            PropertyId::Opacity,
-            "50%",
-            Ok(Declared::Number(Fix(500_000))),
-        ),
-        (
-            PropertyId::Opacity,
-            "-2",
-            Ok(Declared::Number(Fix(-2 * ONE))),
-        ),
+        (PropertyId::Opacity, "50%", number(HALF)),
+        (PropertyId::Opacity, "-2", number(-2 * ONE)),
         (
             PropertyId::Rotate,
             "90deg",
