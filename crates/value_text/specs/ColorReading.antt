@@ -13,6 +13,7 @@ abbrev pub ◌>>=◌ : {A B : Type 0} → Option A → (A → Option B) → Opti
 None >>= f = None
 (Some x) >>= f = f x
 
+-- the value, whatever the fault where there is none
 abbrev pub found : {A : Type 0} → Result A ValueFault → Option A
 found (Ok x) = Some x
 found (Err fault) = None

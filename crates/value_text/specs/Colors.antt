@@ -36,6 +36,7 @@ color_words =
 abbrev pub rgba : ℕ → ℕ → ℕ → ℤ → Rgba
 rgba r g b a = record { r = r; g = g; b = b; a = record { 0 = a } }
 
+-- a colour of alpha 1
 abbrev pub opaque : ℕ × ℕ × ℕ → Rgba
 opaque c = rgba c.0 c.1 c.2 (pos 1000000)
 

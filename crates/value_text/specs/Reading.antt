@@ -47,9 +47,11 @@ both f (Err NoMemory) (Err fault) = Err fault
 
 -- ---- lengths and percents
 
+-- so many millionths of the unit
 abbrev pub size_of : «Unit» → Fix → Size
 size_of u n = record { amount = n; unit = u }
 
+-- the number with its unit, where the unit is one
 abbrev pub with_unit : ValueRange → List ℕ → Option «Unit» → Result Size ValueFault
 with_unit range text (Some u) = mapped (size_of u) (number_in range text)
 with_unit range text None = Err Unsupported
@@ -82,7 +84,7 @@ part_in part = length_in All part
 
 -- ---- values
 
--- the number that the parts are alone
+-- the number, the word or the part that the parts are alone
 abbrev pub lone_number : List Piece → Option (List ℕ)
 lone_number (Number text ∷ []) = Some text
 lone_number _ = None
@@ -104,10 +106,12 @@ read_of f None = Err Unsupported
 abbrev pub keyword_in : List ℕ → Declared → List ℕ → Result Declared ValueFault
 keyword_in keyword d word = (if names word keyword then Ok d else Err Unsupported)
 
+-- the angle that the part is
 abbrev pub angle_in : ValueRange → Piece → Result Declared ValueFault
 angle_in range (Dimension text word) = (if names word (codes "deg") then mapped declared.Angle (number_in range text) else Err Unsupported)
 angle_in range _ = Err Unsupported
 
+-- the one or two parts of a translation
 abbrev pub pair_in : List Piece → Result Declared ValueFault
 pair_in (x ∷ []) = mapped (λ s. declared.Pair s zero_pixels) (part_in x)
 pair_in (x ∷ y ∷ []) = both declared.Pair (part_in x) (part_in y)
@@ -151,6 +155,7 @@ kind_at p (part ∷ ps) = find (takes p) (kinds_at part)
 unfoldable pub value_in : PropertyId → List Piece → Result Declared ValueFault
 value_in p parts = read_of (λ k. kind_in p k parts) (kind_at p parts)
 
+-- what the parts declare, given the keyword of the cascade that they are
 abbrev pub declared_in : PropertyId → List Piece → Option Keyword → Result Declared ValueFault
 declared_in p parts (Some k) = supported (declared_by (is_inherited p) k)
 declared_in p parts None = value_in p parts

@@ -12,6 +12,7 @@ use Rattle.value_text.specs.Numbers.{IsNumber}
 abbrev pub length_units : List (List ℕ × «Unit»)
 length_units = (codes "px", unit.Px) ∷ (codes "em", unit.Em) ∷ (codes "rem", unit.Rem) ∷ []
 
+-- the length 0
 abbrev pub zero_pixels : Size
 zero_pixels = record { amount = record { 0 = pos 0 }; unit = unit.Px }
 

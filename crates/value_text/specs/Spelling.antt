@@ -1,4 +1,4 @@
--- The spellings of a property's values.
+-- The spellings of a property's values: the "Value" line of its definition, by CSS Values 3, sections 2 and 4 to 6.
 use Rattle.std.specs.Prelude.{◌≡◌, ℕ, ℤ, pos, Bool, true, false, List, [], ◌∷◌, codes, IsTrue, Option, None, Some, Result, Ok, Err, ⊤}
 use Rattle.fix_num.specs.Rounding.{rounded}
 use Rattle.fix_num.specs.declared.units.Fix.{Fix}
@@ -46,10 +46,12 @@ declared_by false cascade.Inherit = None
 declared_by true cascade.Unset = Some declared.Inherit
 declared_by false cascade.Unset = Some declared.Initial
 
+-- the keywords of visibility (CSS 2.2, section 11.2)
 abbrev pub visibility_words : List (List ℕ × Visibility)
 visibility_words =
     (codes "visible", seen.Visible) ∷ (codes "hidden", seen.Hidden) ∷ (codes "collapse", seen.Collapse) ∷ []
 
+-- the keywords of display (CSS Display 3, section 2)
 abbrev pub display_words : List (List ℕ × Display)
 display_words =
     (codes "none", shown.Nothing)
@@ -73,6 +75,7 @@ abbrev pub declared_percent : PropertyId → Size → Declared
 declared_percent Opacity s = declared.Number (record { 0 = rounded s.amount.0 (pos 100) })
 declared_percent p s = declared.Length s
 
+-- a colour, declared
 abbrev pub colored : Rgba → Declared
 colored c = declared.Color c.r c.g c.b c.a
 

@@ -1,7 +1,8 @@
 //! Numbers and integers of values.
 ghost use Rattle.std.specs.Prelude.{◌≡◌, ◌==◌, not};
 ghost use Rattle.std.specs.List.{list_all};
-ghost use Rattle.value_text.specs.NumberReading.{begins_minus, channel_of, far_in_range, has_no_point, integer_in, is_in_range, number_in};
+ghost use Rattle.value_text.specs.NumberReading.{begins_minus, channel_of, far_in_range, integer_in, is_in_range, number_in};
+ghost use Rattle.value_text.specs.Numbers.{has_no_point};
 
 use fix_num::{Fix, NumFault, read_decimal_bytes, read_rounded_bytes};
 use token_parts::ValueFault;
