@@ -1,0 +1,9 @@
+pub mod AnswerLemmas
+pub mod EasingLemmas
+pub mod GroupLemmas
+pub mod ListLemmas
+pub mod NumberLemmas
+pub mod OneListLemmas
+pub mod OptionLemmas
+pub mod TimeLemmas
+pub mod ViewLemmas

@@ -1,0 +1,5 @@
+pub mod Easings
+pub mod ItemReading
+pub mod Lists
+pub mod Numbers
+pub mod Reading

@@ -1,0 +1,137 @@
+-- The spellings of timing lists (CSS Transitions 1, section 2; CSS Animations 1, section 3).
+use Rattle.std.specs.Prelude.{◌≡◌, ℕ, ◌<◌, ◌≤◌, ℤ, pos, ◌≤ℤ◌, Bool, ◌||◌, if◌then◌else◌, List, [], ◌∷◌, ◌++◌, length, codes, IsTrue, Option, None, Some, Result, Ok, Err, ⊤}
+use Rattle.fix_num.specs.Rounded.{StandsNear}
+use Rattle.fix_num.specs.declared.units.Micros.{Micros}
+use Rattle.token_parts.specs.Keywords.{names, look_up}
+use Rattle.token_parts.specs.Parts.{Piece, Ident, Number, Dimension, Comma}
+use Rattle.token_parts.specs.declared.fault.ValueFault.{ValueFault}
+use Rattle.token_parts.specs.declared.fault.ValueFault.TheVariants.{Unsupported, BoundItems, Bound, NoMemory}
+use Rattle.value_types.specs.ListValues.{IsListValueFor}
+use Rattle.value_types.specs.Properties.{property_named}
+use Rattle.value_types.specs.declared.list_value.ListName.{ListName}
+use Rattle.value_types.specs.declared.list_value.ListName.TheVariants as list
+use Rattle.value_types.specs.declared.list_value.ListValue.{ListValue}
+use Rattle.value_types.specs.declared.list_value.ListValue.TheVariants.{Inherit, Initial, Properties, Times, Easings, Names, Counts, Directions, Fills, States}
+use Rattle.value_types.specs.declared.property.PropertyId.{PropertyId}
+use Rattle.value_types.specs.declared.shorthand.PropertyItem.{PropertyItem}
+use Rattle.value_types.specs.declared.shorthand.PropertyItem.TheVariants as item
+use Rattle.value_types.specs.declared.shorthand.Shorthand.{Shorthand}
+use Rattle.value_types.specs.declared.shorthand.Shorthand.TheVariants.{Background, Inset, Margin, Padding}
+use Rattle.value_types.specs.declared.timing.Count.{Count}
+use Rattle.value_types.specs.declared.timing.Count.TheVariants as count
+use Rattle.value_types.specs.declared.timing.Direction.{Direction}
+use Rattle.value_types.specs.declared.timing.Direction.TheVariants.{Normal, Reverse, Alternate, AlternateReverse}
+use Rattle.value_types.specs.declared.timing.Fill.{Fill}
+use Rattle.value_types.specs.declared.timing.Fill.TheVariants.{Nothing, Forwards, Backwards, Both}
+use Rattle.value_types.specs.declared.timing.PlayState.{PlayState}
+use Rattle.value_types.specs.declared.timing.PlayState.TheVariants.{Running, Paused}
+use Rattle.list_text.specs.Easings.{IsEasingSpelling}
+
+-- ---- items
+
+-- the part is a word with that meaning
+abbrev pub IsWord : {T : Type 0} → (List ℕ → Option T) → List Piece → T → Type 0
+IsWord meaning parts x = (w : List ℕ) × (parts ≡ Ident w ∷ []) × (meaning w ≡ Some x)
+
+abbrev pub direction_words : List (List ℕ × Direction)
+direction_words = (codes "normal", Normal) ∷ (codes "reverse", Reverse) ∷ (codes "alternate", Alternate)
+    ∷ (codes "alternate-reverse", AlternateReverse) ∷ []
+
+abbrev pub fill_words : List (List ℕ × Fill)
+fill_words = (codes "none", Nothing) ∷ (codes "forwards", Forwards) ∷ (codes "backwards", Backwards) ∷ (codes "both", Both) ∷ []
+
+abbrev pub state_words : List (List ℕ × PlayState)
+state_words = (codes "running", Running) ∷ (codes "paused", Paused) ∷ []
+
+abbrev pub shorthand_words : List (List ℕ × Shorthand)
+shorthand_words = (codes "background", Background) ∷ (codes "inset", Inset) ∷ (codes "margin", Margin) ∷ (codes "padding", Padding) ∷ []
+
+-- a keyword of the cascade, which is no item of a list
+abbrev pub is_of_cascade : List ℕ → Bool
+is_of_cascade w = names w (codes "initial") || names w (codes "unset") || names w (codes "inherit")
+
+-- an animation's name: `none`, or any other word as it is written
+abbrev pub name_of_word : List ℕ → Option (Option (List ℕ))
+name_of_word w = (if is_of_cascade w then None else if names w (codes "none") then Some None else Some (Some w))
+
+-- the property, else the shorthand that has the name
+abbrev pub known : Option PropertyId → Option Shorthand → PropertyItem
+known (Some p) s = item.Property p
+known None (Some s) = item.Short s
+known None None = item.Unknown
+
+-- what transitions: `none` is no item
+abbrev pub property_of_word : List ℕ → Option PropertyItem
+property_of_word w =
+    (if is_of_cascade w || names w (codes "none") then None
+    else if names w (codes "all") then Some item.All
+    else Some (known (property_named w) (look_up shorthand_words w)))
+
+-- a time in microseconds: of seconds to six places, of milliseconds to three
+pub data IsTime : List Piece → ℤ → Type 0 where
+  seconds : (n u : List ℕ) (v : ℤ) → IsTrue (names u (codes "s")) → StandsNear 6 n v → IsTime (Dimension n u ∷ []) v
+  milliseconds : (n u : List ℕ) (v : ℤ) → IsTrue (names u (codes "ms")) → StandsNear 3 n v → IsTime (Dimension n u ∷ []) v
+
+abbrev pub IsDelaySpelling : List Piece → Micros → Type 0
+IsDelaySpelling parts t = IsTime parts t.0
+
+-- a duration is not negative
+abbrev pub IsDurationSpelling : List Piece → Micros → Type 0
+IsDurationSpelling parts t = IsTime parts t.0 × (pos 0 ≤ℤ t.0)
+
+-- a count is a number that is not negative, in millionths, or `infinite`
+pub data IsCountSpelling : List Piece → Count → Type 0 where
+  times : (n : List ℕ) (v : ℤ) → StandsNear 6 n v → pos 0 ≤ℤ v → IsCountSpelling (Number n ∷ []) (count.Times (record { 0 = v }))
+  infinite : (w : List ℕ) → IsTrue (names w (codes "infinite")) → IsCountSpelling (Ident w ∷ []) count.Infinite
+
+-- ---- lists
+
+-- items, with a comma between each and the next
+pub data AreItems {T : Type 0} (P : List Piece → T → Type 0) : List Piece → List T → Type 0 where
+  last : (parts : List Piece) (x : T) → P parts x → AreItems P parts (x ∷ [])
+  more : (parts rest : List Piece) (x : T) (xs : List T) → P parts x → AreItems P rest xs
+      → AreItems P (parts ++ Comma ∷ rest) (x ∷ xs)
+
+-- the parts are items of the list
+abbrev pub AreItemsOf : ListName → List Piece → ListValue → Type 0
+AreItemsOf list.TransitionProperty parts (Properties xs) = AreItems (IsWord property_of_word) parts xs
+AreItemsOf list.TransitionDuration parts (Times xs) = AreItems IsDurationSpelling parts xs
+AreItemsOf list.TransitionDelay parts (Times xs) = AreItems IsDelaySpelling parts xs
+AreItemsOf list.TransitionEasing parts (Easings xs) = AreItems IsEasingSpelling parts xs
+AreItemsOf list.AnimationName parts (Names xs) = AreItems (IsWord name_of_word) parts xs
+AreItemsOf list.AnimationDuration parts (Times xs) = AreItems IsDurationSpelling parts xs
+AreItemsOf list.AnimationDelay parts (Times xs) = AreItems IsDelaySpelling parts xs
+AreItemsOf list.AnimationEasing parts (Easings xs) = AreItems IsEasingSpelling parts xs
+AreItemsOf list.AnimationCount parts (Counts xs) = AreItems IsCountSpelling parts xs
+AreItemsOf list.AnimationDirection parts (Directions xs) = AreItems (IsWord (look_up direction_words)) parts xs
+AreItemsOf list.AnimationFill parts (Fills xs) = AreItems (IsWord (look_up fill_words)) parts xs
+AreItemsOf list.AnimationPlayState parts (States xs) = AreItems (IsWord (look_up state_words)) parts xs
+AreItemsOf _ parts _ = ⊥
+
+-- the parts spell the value of the list, whatever the size of its numbers: no list is inherited, so `unset` is `initial`
+pub data IsListSpelling : ListName → List Piece → ListValue → Type 0 where
+  initial : (name : ListName) (w : List ℕ) → IsTrue (names w (codes "initial") || names w (codes "unset"))
+      → IsListSpelling name (Ident w ∷ []) Initial
+  nothing : (w : List ℕ) → IsTrue (names w (codes "none")) → IsListSpelling list.TransitionProperty (Ident w ∷ []) (Properties [])
+  items : (name : ListName) (parts : List Piece) (v : ListValue) → AreItemsOf name parts v → IsListSpelling name parts v
+
+-- how many items it has
+abbrev pub item_count : ListValue → ℕ
+item_count Inherit = 0
+item_count Initial = 0
+item_count (Properties xs) = length xs
+item_count (Times xs) = length xs
+item_count (Easings xs) = length xs
+item_count (Names xs) = length xs
+item_count (Counts xs) = length xs
+item_count (Directions xs) = length xs
+item_count (Fills xs) = length xs
+item_count (States xs) = length xs
+
+-- the answer of the reader of these parts, unless memory runs out
+abbrev pub IsListAnswer : ListName → List Piece → Result ListValue ValueFault → Type 0
+IsListAnswer name parts (Ok v) = IsListSpelling name parts v × (item_count v ≤ 32) × IsListValueFor name v
+IsListAnswer name parts (Err Unsupported) = (v : ListValue) → IsListSpelling name parts v → ⊥
+IsListAnswer name parts (Err BoundItems) = (v : ListValue) × IsListSpelling name parts v × (32 < item_count v)
+IsListAnswer name parts (Err Bound) = (v : ListValue) × IsListSpelling name parts v × (item_count v ≤ 32) × (IsListValueFor name v → ⊥)
+IsListAnswer name parts (Err NoMemory) = ⊤

@@ -1,0 +1,144 @@
+//! Timing lists.
+ghost use Rattle.std.specs.Prelude.{◌≡◌, false, map, All, IfOk, option_map, codes, ◌||◌};
+ghost use Rattle.std.specs.List.{list_all};
+ghost use Rattle.css_token.specs.TokenLists.{LiesWithin};
+ghost use Rattle.token_parts.specs.Keywords.{names};
+ghost use Rattle.token_parts.specs.Parts.{pieces_of, seen};
+ghost use Rattle.list_text.specs.ItemReading.{Gives, each_of, has_sign, is_initial, is_word, items_of, list_of, micros_of, micros_within, properties_of, result_map, value_of};
+ghost use Rattle.list_text.specs.Lists.{IsListAnswer};
+ghost use Rattle.list_text.specs.Numbers.{clamped};
+
+use crate::group::groups;
+use crate::item::Item;
+use css_token::Token;
+use std::alloc::{AllocError, Global};
+use token_parts::{Part, ValueFault, is_keyword, parts};
+use value_types::{Items, ListName, ListValue};
+
+/// The value of the timing list that the tokens of the text spell (CSS Transitions 1, section 2; CSS
+/// Animations 1, section 3). `Unsupported`: none. `BoundItems`: more than 32 items. `Bound`: a number past
+/// its limit. In this order.
+pub fn read_list(
+    alloc: Global,
+    name: ListName,
+    text: &str,
+    tokens: &[Token],
+) -> Result<ListValue, ValueFault>
+    requires { All (LiesWithin text.now) tokens.now }
+    ensures answer { IsListAnswer name (pieces_of text.now tokens.now) result }
+    ensures reading { Gives (λ v. v) result (list_of name (pieces_of text.now tokens.now)) }
+{
+    let Ok(parts) = parts(alloc, text.as_bytes(), tokens) else {
+        return Err(ValueFault::NoMemory);
+    };
+    list_of(alloc, name, parts.as_slice())
+}
+
+fn list_of(alloc: Global, name: ListName, parts: &[Part]) -> Result<ListValue, ValueFault>
+    ensures { Gives (λ v. v) result (list_of name (map seen parts.now)) }
+{
+    if is_initial(parts) {
+        return Ok(ListValue::Initial);
+    }
+    value_of(alloc, name, parts)
+}
+
+fn is_initial(parts: &[Part]) -> bool
+    ensures { result ≡ is_initial (map seen parts.now) }
+{
+    match parts {
+        [Part::Ident(word)] => is_keyword(word, b"initial") || is_keyword(word, b"unset"),
+        _ => false,
+    }
+}
+
+fn value_of(alloc: Global, name: ListName, parts: &[Part]) -> Result<ListValue, ValueFault>
+    ensures { Gives (λ v. v) result (value_of name (map seen parts.now)) }
+{
+    match name {
+        ListName::TransitionProperty => properties_of(alloc, parts),
+        ListName::TransitionDuration => times(alloc, name, parts),
+        ListName::TransitionDelay => times(alloc, name, parts),
+        ListName::TransitionEasing => items_of(alloc, name, parts).map(ListValue::Easings),
+        ListName::AnimationDuration => times(alloc, name, parts),
+        ListName::AnimationDelay => times(alloc, name, parts),
+        ListName::AnimationEasing => items_of(alloc, name, parts).map(ListValue::Easings),
+        ListName::AnimationName => items_of(alloc, name, parts).map(ListValue::Names),
+        ListName::AnimationCount => items_of(alloc, name, parts).map(ListValue::Counts),
+        ListName::AnimationDirection => items_of(alloc, name, parts).map(ListValue::Directions),
+        ListName::AnimationFill => items_of(alloc, name, parts).map(ListValue::Fills),
+        ListName::AnimationPlayState => items_of(alloc, name, parts).map(ListValue::States),
+    }
+}
+
+/// Durations or delays.
+fn times(alloc: Global, name: ListName, parts: &[Part]) -> Result<ListValue, ValueFault>
+    ensures { Gives (λ v. v) result (result_map ListValue.Times (items_of (micros_of clamped (has_sign name)) micros_within (map seen parts.now))) }
+{
+    items_of(alloc, name, parts).map(ListValue::Times)
+}
+
+#[tactic(auto, unfolding(crate::specs::ItemReading::properties_of))]
+fn properties_of(alloc: Global, parts: &[Part]) -> Result<ListValue, ValueFault>
+    ensures { Gives (λ v. v) result (properties_of (map seen parts.now)) }
+{
+    if is_none(parts) {
+        return Ok(ListValue::Properties(Items::new(alloc)));
+    }
+    items_of(alloc, ListName::TransitionProperty, parts).map(ListValue::Properties)
+}
+
+fn is_none(parts: &[Part]) -> bool
+    ensures { result ≡ is_word (λ w. names w (codes "none")) (map seen parts.now) }
+{
+    match parts {
+        [Part::Ident(word)] => is_keyword(word, b"none"),
+        _ => false,
+    }
+}
+
+/// The items of the list, at most 32.
+fn items_of<T: Item>(alloc: Global, name: ListName, parts: &[Part]) -> Result<Items<T>, ValueFault>
+    ensures { Gives (λ v. v) result (items_of (T.item_of name) T.within (map seen parts.now)) }
+{
+    let Ok(groups) = groups(alloc, parts) else {
+        return Err(ValueFault::NoMemory);
+    };
+    let Ok(found) = each_of(alloc, name, groups.as_slice()) else {
+        return Err(ValueFault::NoMemory);
+    };
+    let Some(items) = found else {
+        return Err(ValueFault::Unsupported);
+    };
+    if items.len() > 32 {
+        return Err(ValueFault::BoundItems);
+    }
+    if !are_within(items.as_slice()) {
+        return Err(ValueFault::Bound);
+    }
+    Ok(Items::from_vec(items))
+}
+
+/// The item of each group, where each is one.
+fn each_of<T: Item>(
+    alloc: Global,
+    name: ListName,
+    groups: &[&[Part]],
+) -> Result<Option<Vec<T>>, AllocError>
+    ensures { IfOk result (λ o. option_map (λ v. v.items) o ≡ each_of (T.item_of name) (map (λ g. map seen g.now) groups.now)) }
+{
+    let mut items = Vec::new(alloc);
+    for group in groups {
+        let Some(item) = T::read(alloc, name, group)? else {
+            return Ok(None);
+        };
+        items.push(item)?;
+    }
+    Ok(Some(items))
+}
+
+fn are_within<T: Item>(items: &[T]) -> bool
+    ensures { result ≡ list_all T.within items.now }
+{
+    items.iter().all(|item| item.is_within())
+}

@@ -1,0 +1,9 @@
+pub mod ColorLemmas
+pub mod DeclaredLemmas
+pub mod HexLemmas
+pub mod IntegerLemmas
+pub mod KindLemmas
+pub mod NumberLemmas
+pub mod Readings
+pub mod SizeLemmas
+pub mod ValueLemmas

@@ -1,0 +1,257 @@
+//! Values of one kind.
+ghost use Rattle.std.specs.Prelude.{if◌then◌else◌, ◌≡◌, ◌∷◌, map, option_map, pos, codes};
+ghost use Rattle.fix_num.specs.Rounding.{rounded};
+ghost use Rattle.token_parts.specs.Keywords.{look_up, names};
+ghost use Rattle.token_parts.specs.Parts.{seen};
+ghost use Rattle.value_types.specs.Validity.{declared_range_of};
+ghost use Rattle.value_text.specs.ColorReading.{color_of};
+ghost use Rattle.value_text.specs.NumberReading.{integer_in, number_in};
+ghost use Rattle.value_text.specs.Reading.{angle_in, both, keyword_in, kind_in, length_in, lone, lone_number, lone_word, mapped, pair_in, percent_in, read_of, supported};
+ghost use Rattle.value_text.specs.Spelling.{colored, declared_percent, display_words, visibility_words};
+
+use crate::color::color;
+use crate::number::{integer, number};
+use crate::size::{length, length_or_percent, percent, zero_pixels};
+use fix_num::{Fix, rnd};
+use token_parts::{Part, ValueFault, is_keyword, look_up};
+use value_types::{
+    Declared, Display, PropertyId, Size, ValueKind, ValueRange, Visibility, range_of,
+};
+
+/// The value of this kind that the parts spell for the property.
+pub(crate) fn of_kind(
+    p: PropertyId,
+    kind: ValueKind,
+    parts: &[Part],
+) -> Result<Declared, ValueFault>
+    ensures { result ≡ kind_in p kind (map seen parts.now) }
+{
+    let range = declared_range(p);
+    match kind {
+        ValueKind::Number => lone_number_value(range, parts),
+        ValueKind::Length => length_value(range, parts),
+        ValueKind::Percent => percent_value(p, range, parts),
+        ValueKind::Auto => keyword(parts, b"auto", Declared::Auto),
+        ValueKind::Normal => keyword(parts, b"normal", Declared::Length(zero_pixels())),
+        ValueKind::Int => integer_value(parts),
+        ValueKind::Color => color_value(parts),
+        ValueKind::Angle => angle_value(range, parts),
+        ValueKind::Pair => pair_value(parts),
+        ValueKind::Absent => keyword(parts, b"none", Declared::Absent),
+        ValueKind::Visibility => visibility_value(parts),
+        ValueKind::Display => display_value(parts),
+    }
+}
+
+/// The range of declared numbers: opacity is clamped only when it is computed.
+fn declared_range(p: PropertyId) -> ValueRange
+    ensures { result ≡ declared_range_of p }
+{
+    if p == PropertyId::Opacity {
+        ValueRange::All
+    } else {
+        range_of(p)
+    }
+}
+
+fn lone_number_value(range: ValueRange, parts: &[Part]) -> Result<Declared, ValueFault>
+    ensures { result ≡ read_of (λ text. mapped Declared.Number (number_in range text)) (lone_number (map seen parts.now)) }
+{
+    match parts {
+        [Part::Number(text)] => match number(range, text) {
+            Ok(n) => Ok(Declared::Number(n)),
+            Err(fault) => Err(fault),
+        },
+        _ => Err(ValueFault::Unsupported),
+    }
+}
+
+fn length_value(range: ValueRange, parts: &[Part]) -> Result<Declared, ValueFault>
+    ensures { result ≡ read_of (λ part. mapped Declared.Length (length_in range part)) (lone (map seen parts.now)) }
+{
+    match parts {
+        [part] => match length(range, part) {
+            Ok(size) => Ok(Declared::Length(size)),
+            Err(fault) => Err(fault),
+        },
+        _ => Err(ValueFault::Unsupported),
+    }
+}
+
+fn percent_value(p: PropertyId, range: ValueRange, parts: &[Part]) -> Result<Declared, ValueFault>
+    ensures { result ≡ read_of (λ part. mapped (declared_percent p) (percent_in range part)) (lone (map seen parts.now)) }
+{
+    match parts {
+        [part] => match percent(range, part) {
+            Ok(size) => Ok(declared_percent(p, size)),
+            Err(fault) => Err(fault),
+        },
+        _ => Err(ValueFault::Unsupported),
+    }
+}
+
+fn declared_percent(p: PropertyId, size: Size) -> Declared
+    ensures { result ≡ declared_percent p size }
+{
+    if p == PropertyId::Opacity {
+        Declared::Number(hundredth(size.amount))
+    } else {
+        Declared::Length(size)
+    }
+}
+
+fn hundredth(n: Fix) -> Fix
+    ensures { result ≡ record { 0 = rounded n.0 (pos 100) } }
+{
+    Fix(rnd(i128::from(n.0), 100) as i64)
+}
+
+fn keyword(parts: &[Part], word: &[u8], value: Declared) -> Result<Declared, ValueFault>
+    ensures { result ≡ read_of (keyword_in word.now value) (lone_word (map seen parts.now)) }
+{
+    match parts {
+        [Part::Ident(name)] => {
+            if is_keyword(name, word) {
+                Ok(value)
+            } else {
+                Err(ValueFault::Unsupported)
+            }
+        }
+        _ => Err(ValueFault::Unsupported),
+    }
+}
+
+fn integer_value(parts: &[Part]) -> Result<Declared, ValueFault>
+    ensures { result ≡ read_of (λ text. mapped Declared.Int (integer_in text)) (lone_number (map seen parts.now)) }
+{
+    match parts {
+        [Part::Number(text)] => match integer(text) {
+            Ok(i) => Ok(Declared::Int(i)),
+            Err(fault) => Err(fault),
+        },
+        _ => Err(ValueFault::Unsupported),
+    }
+}
+
+fn color_value(parts: &[Part]) -> Result<Declared, ValueFault>
+    ensures { result ≡ supported (option_map colored (color_of (map seen parts.now))) }
+{
+    match color(parts) {
+        Some(c) => Ok(Declared::Color {
+            r: c.r,
+            g: c.g,
+            b: c.b,
+            a: c.a,
+        }),
+        None => Err(ValueFault::Unsupported),
+    }
+}
+
+fn angle_value(range: ValueRange, parts: &[Part]) -> Result<Declared, ValueFault>
+    ensures { result ≡ read_of (angle_in range) (lone (map seen parts.now)) }
+{
+    match parts {
+        [Part::Dimension { number, unit }] => angle(range, number, unit),
+        _ => Err(ValueFault::Unsupported),
+    }
+}
+
+fn angle(range: ValueRange, text: &[u8], unit: &[u8]) -> Result<Declared, ValueFault>
+    ensures { result ≡ (if names unit.now (codes "deg") then mapped Declared.Angle (number_in range text.now) else Err ValueFault.Unsupported) }
+{
+    if !is_keyword(unit, b"deg") {
+        return Err(ValueFault::Unsupported);
+    }
+    match number(range, text) {
+        Ok(n) => Ok(Declared::Angle(n)),
+        Err(fault) => Err(fault),
+    }
+}
+
+fn pair_value(parts: &[Part]) -> Result<Declared, ValueFault>
+    ensures { result ≡ pair_in (map seen parts.now) }
+{
+    match parts {
+        [part] => match length_or_percent(part) {
+            Ok(x) => Ok(Declared::Pair {
+                x,
+                y: zero_pixels(),
+            }),
+            Err(fault) => Err(fault),
+        },
+        [first, second] => both(length_or_percent(first), length_or_percent(second)),
+        _ => Err(ValueFault::Unsupported),
+    }
+}
+
+/// Both parts; what is unsupported in either comes before a bound.
+fn both(x: Result<Size, ValueFault>, y: Result<Size, ValueFault>) -> Result<Declared, ValueFault>
+    ensures { result ≡ both Declared.Pair x y }
+{
+    match (x, y) {
+        (Ok(x), Ok(y)) => Ok(Declared::Pair { x, y }),
+        (Ok(_), Err(fault)) => Err(fault),
+        (Err(fault), Ok(_)) => Err(fault),
+        (Err(ValueFault::Unsupported), Err(_)) => Err(ValueFault::Unsupported),
+        (Err(_), Err(fault)) => Err(fault),
+    }
+}
+
+fn visibility_value(parts: &[Part]) -> Result<Declared, ValueFault>
+    ensures { result ≡ read_of (λ word. supported (option_map Declared.Visible (look_up visibility_words word))) (lone_word (map seen parts.now)) }
+{
+    match parts {
+        [Part::Ident(word)] => match visibility_named(word) {
+            Some(v) => Ok(Declared::Visible(v)),
+            None => Err(ValueFault::Unsupported),
+        },
+        _ => Err(ValueFault::Unsupported),
+    }
+}
+
+fn visibility_named(word: &[u8]) -> Option<Visibility>
+    ensures { result ≡ look_up visibility_words word.now }
+{
+    look_up(
+        &[
+            ("visible", Visibility::Visible),
+            ("hidden", Visibility::Hidden),
+            ("collapse", Visibility::Collapse),
+        ],
+        word,
+    )
+}
+
+fn display_value(parts: &[Part]) -> Result<Declared, ValueFault>
+    ensures { result ≡ read_of (λ word. supported (option_map Declared.Display (look_up display_words word))) (lone_word (map seen parts.now)) }
+{
+    match parts {
+        [Part::Ident(word)] => match display_named(word) {
+            Some(d) => Ok(Declared::Display(d)),
+            None => Err(ValueFault::Unsupported),
+        },
+        _ => Err(ValueFault::Unsupported),
+    }
+}
+
+fn display_named(word: &[u8]) -> Option<Display>
+    ensures { result ≡ look_up display_words word.now }
+{
+    look_up(
+        &[
+            ("none", Display::Nothing),
+            ("block", Display::Block),
+            ("inline", Display::Inline),
+            ("inline-block", Display::InlineBlock),
+            ("flow-root", Display::FlowRoot),
+            ("list-item", Display::ListItem),
+            ("flex", Display::Flex),
+            ("inline-flex", Display::InlineFlex),
+            ("grid", Display::Grid),
+            ("inline-grid", Display::InlineGrid),
+            ("table", Display::Table),
+            ("contents", Display::Contents),
+        ],
+        word,
+    )
+}
