@@ -14,10 +14,10 @@ use std::alloc::{AllocError, Global};
 use std::marker::Model;
 
 /// What is kept of an element from one style change event to the next: its animations ascend by their places.
-/// Contracts see it as its parts.
+/// Contracts see it as its parts. They stand behind one pointer, so that an entry is cheap to move.
 #[derive(Drop)]
 pub struct Entry {
-    parts: EntryParts,
+    parts: Box<EntryParts>,
 }
 
 impl Model for Entry {
@@ -27,26 +27,29 @@ impl Model for Entry {
 
     ghost use Rattle.style_data.specs.Entries.{AreAscending};
 
-    ghost view = { λ e. e.parts };
+    ghost view = { λ e. e.parts.value };
 
-    ghost invariant = { λ e. AreAscending e.parts.animations };
+    ghost invariant = { λ e. AreAscending e.parts.value.animations };
 }
 
 impl Entry {
-    /// The entry of these parts. Takes no memory.
-    pub fn new(parts: EntryParts) -> Entry
+    /// The entry of these parts.
+    pub fn new(alloc: Global, parts: EntryParts) -> Result<Entry, AllocError>
         requires { AreAscending parts.animations }
-        ensures { result ≡ parts }
+        ensures { IfOk result (λ e. e ≡ parts) }
     {
-        Entry { parts }
+        Ok(Entry {
+            parts: Box::new(alloc, parts)?,
+        })
     }
 
     /// That of an element which no frame has styled.
     pub fn fresh(alloc: Global) -> Result<Entry, AllocError>
         ensures { IfOk result (λ e. e ≡ fresh_entry) }
     {
-        Ok(Entry {
-            parts: EntryParts {
+        Entry::new(
+            alloc,
+            EntryParts {
                 styled: false,
                 rendered: false,
                 settled: false,
@@ -56,7 +59,7 @@ impl Entry {
                 animations: ShortList::new(alloc),
                 gone: ShortList::new(alloc),
             },
-        })
+        )
     }
 
     /// Its parts.
@@ -73,7 +76,7 @@ impl Entry {
         ensures ascending { AreAscending result.animations }
     {
         let Entry { parts } = self;
-        parts
+        Box::into_inner(parts)
     }
 
     /// The same entry again.
@@ -81,16 +84,19 @@ impl Entry {
         ensures { IfOk result (λ e. e ≡ self.now) }
     {
         let parts = self.get();
-        Ok(Entry::new(EntryParts {
-            styled: parts.styled,
-            rendered: parts.rendered,
-            settled: parts.settled,
-            declared: parts.declared.copy(alloc)?,
-            now: parts.now.copy(alloc)?,
-            transitions: parts.transitions.copy(alloc)?,
-            animations: copy_animations(alloc, parts.animations.as_slice())?,
-            gone: copy_gone(alloc, parts.gone.as_slice())?,
-        }))
+        Entry::new(
+            alloc,
+            EntryParts {
+                styled: parts.styled,
+                rendered: parts.rendered,
+                settled: parts.settled,
+                declared: parts.declared.copy(alloc)?,
+                now: parts.now.copy(alloc)?,
+                transitions: parts.transitions.copy(alloc)?,
+                animations: copy_animations(alloc, parts.animations.as_slice())?,
+                gone: copy_gone(alloc, parts.gone.as_slice())?,
+            },
+        )
     }
 }
 
