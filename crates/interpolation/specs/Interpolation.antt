@@ -1,4 +1,4 @@
--- Interpolation of computed values (Web Animations Level 1, section 5.3; CSS Transitions Level 1, section 7).
+-- Interpolation of computed values (Web Animations Level 1, "animating properties"; the "animation type" lines of the properties).
 use Rattle.std.specs.Prelude.{ℕ, ◌^◌, ℤ, pos, ◌≤ℤ◌, int_lt, Bool, true, false, ◌&&◌, ◌||◌, if◌then◌else◌, List, [], ◌∷◌, slice_index_or}
 use Rattle.std.specs.Int.{int_min, int_max}
 use Rattle.std.specs.Ordering.{int_eq}

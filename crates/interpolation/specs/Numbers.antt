@@ -1,5 +1,5 @@
--- Interpolation of numbers (CSS Values and Units Level 3, section 4.2.1, "combination of numbers"; Web Animations Level 1,
--- section 5.3). Numbers are millionths; outputs are billionths and may lie outside 0 to 1.
+-- Interpolation of numbers (CSS Values and Units, "computation and combination of <number>"; Web Animations Level 1,
+-- "animating properties"). Numbers are millionths; outputs are billionths and may lie outside 0 to 1.
 use Rattle.std.specs.Prelude.{◌^◌, ℤ, pos, ◌+ℤ◌, ◌-ℤ◌, ◌*ℤ◌, neg_ℤ}
 use Rattle.std.specs.Int.{int_min, int_max}
 use Rattle.fix_num.specs.Rounding.{rounded}
@@ -34,6 +34,6 @@ highest Nothing = pos (10 ^ 12)
 unfoldable pub number_between : PropertyId → Fix → Fix → ℤ → Fix
 number_between p a b q = record { 0 = clamped (lowest (range_of p)) (highest (range_of p)) (on_the_way a.0 b.0 q) }
 
--- an integer at output q: that on the way, clamped to the limit (CSS Values and Units Level 3, section 4.1.1)
+-- an integer at output q: that on the way, clamped to the limit (CSS Values and Units, "computation and combination of <integer>")
 unfoldable pub integer_between : ℤ → ℤ → ℤ → ℤ
 integer_between i j q = clamped (neg_ℤ (pos 2147483647)) (pos 2147483647) (on_the_way i j q)

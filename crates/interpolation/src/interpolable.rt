@@ -7,7 +7,7 @@ use value_types::{PropertyId, Value, ValueKind, Visibility, takes};
 
 /// Whether two values of the property can be interpolated: numbers, lengths, integers, angles, pairs and colours
 /// with their like, `none` with an angle or a pair, and visibilities of which one is visible (Web Animations
-/// Level 1, section 5.3). No other values can be, and none that isn't of a kind that the property takes.
+/// Level 1, "animating properties"). No other values can be, and none that isn't of a kind that the property takes.
 pub fn able(p: PropertyId, a: Value, b: Value) -> bool
     ensures { result ≡ is_interpolable p a b }
 {

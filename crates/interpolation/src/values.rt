@@ -11,7 +11,7 @@ use fix_num::{Bill, Fix};
 use value_types::{PropertyId, Value, ValueKind, Visibility};
 
 /// The value of the property at output `q`, in billionths, on the way from `a` to `b` (Web Animations Level 1,
-/// section 5.3): `a` at 0, `b` at 1, and past the ends as far as the property's range and the limits go.
+/// "animating properties"): `a` at 0, `b` at 1, and past the ends as far as the property's range and the limits go.
 #[tactic(auto, unfolding(crate::specs::Interpolation::value_between))]
 pub fn between(p: PropertyId, a: Value, b: Value, q: Bill) -> Value
     requires from { IsValid p a }

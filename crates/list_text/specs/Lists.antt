@@ -1,4 +1,4 @@
--- The spellings of timing lists (CSS Transitions 1, section 2; CSS Animations 1, section 3).
+-- The spellings of timing lists (CSS Transitions 1, section 2; CSS Animations 1, section 4).
 use Rattle.std.specs.Prelude.{◌≡◌, ℕ, ◌<◌, ◌≤◌, ℤ, pos, ◌≤ℤ◌, Bool, ◌||◌, if◌then◌else◌, List, [], ◌∷◌, ◌++◌, length, codes, IsTrue, Option, None, Some, Result, Ok, Err, ⊤}
 use Rattle.fix_num.specs.Rounded.{StandsNear}
 use Rattle.fix_num.specs.declared.units.Micros.{Micros}

@@ -1,4 +1,4 @@
--- The bounds of animations (CSS Animations 1, section 3).
+-- The bounds of animations (CSS Animations 1, section 4).
 use Rattle.std.specs.Prelude.{IfSome}
 use Rattle.value_types.specs.Timing.{IsCount, IsDelay, IsDuration, IsEasing}
 use Rattle.style_data.specs.declared.animation_state.AnimationState.{AnimationState}

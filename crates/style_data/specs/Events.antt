@@ -1,4 +1,4 @@
--- The kinds of events (CSS Transitions 1, section 6; CSS Animations 1, section 4.1).
+-- The kinds of events (CSS Transitions 1, section 6; CSS Animations 1, section 5).
 use Rattle.std.specs.Prelude.{ℕ}
 use Rattle.style_data.specs.declared.event.EventKind.{EventKind}
 use Rattle.style_data.specs.declared.event.EventKind.TheVariants.{Run, Start, Iteration, End, Cancel}

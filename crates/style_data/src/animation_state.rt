@@ -8,7 +8,7 @@ use fix_num::Micros;
 use std::alloc::{AllocError, Global};
 use value_types::Name;
 
-/// One animation of an element (CSS Animations 1, section 3). Times are microseconds.
+/// One animation of an element (CSS Animations 1, section 4). Times are microseconds.
 #[derive(Debug, Drop)]
 pub struct AnimationState {
     /// The name of its keyframes rule.

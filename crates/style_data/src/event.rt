@@ -5,7 +5,7 @@ ghost use Rattle.std.specs.Prelude.{◌≡◌};
 use crate::gone::Subject;
 use fix_num::Micros;
 
-/// The kind of an event (CSS Transitions 1, section 6; CSS Animations 1, section 4.1).
+/// The kind of an event (CSS Transitions 1, section 6; CSS Animations 1, section 5).
 #[derive(Clone, Copy, Debug, PartialEq, Eq)]
 pub enum EventKind {
     Run,
@@ -27,7 +27,7 @@ impl EventKind {
 }
 
 /// Where an event stands among those of a frame: by its scheduled time, and then in composite order (Web
-/// Animations 1, section 4.4.17), field by field.
+/// Animations 1, "sorting animation events"), field by field.
 #[derive(Clone, Copy, Debug, PartialEq, Eq)]
 pub struct Key {
     /// The scheduled event time in microseconds.

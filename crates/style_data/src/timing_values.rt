@@ -3,7 +3,7 @@
 use fix_num::Micros;
 use value_types::{Count, Direction, Easing, Fill};
 
-/// The timing of one animation (CSS Animations 1, section 3). Times are microseconds.
+/// The timing of one animation (CSS Animations 1, section 4). Times are microseconds.
 #[derive(Clone, Copy, Debug, PartialEq, Eq)]
 pub struct AnimationTiming {
     pub duration: Micros,

@@ -7,7 +7,7 @@ use Rattle.value_types.specs.declared.property.PropertyId.{PropertyId}
 use Rattle.value_types.specs.declared.value.Value.{Value}
 
 -- the output of a transition at time t: 1 from its end on, 0 up to its start, else its easing's at the elapsed part
--- (CSS Transitions Level 1, section 5, "Application of transitions")
+-- (CSS Transitions Level 1, section 4, "Application of transitions")
 unfoldable pub output_at : Transition → ℤ → ℤ
 output_at r t =
     (if int_le r.end.0 t then pos (10 ^ 9)

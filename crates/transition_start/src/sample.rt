@@ -27,7 +27,7 @@ pub fn phase_at(r: &Running, t: Micros) -> Phase
 }
 
 /// The value of a running transition of the property at time `t`, whenever that is (CSS Transitions Level 1,
-/// section 5): its start value up to its start, and its end value from its end on.
+/// section 4): its start value up to its start, and its end value from its end on.
 pub fn value_at(p: PropertyId, r: &Running, t: Micros) -> Value
     requires kept { IsKeptFor p r.now }
     ensures value { result ≡ sample_of p r.now t.0 }

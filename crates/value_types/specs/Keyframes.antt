@@ -1,4 +1,4 @@
--- The frames of a keyframes rule (CSS Animations 1, section 4).
+-- The frames of a keyframes rule (CSS Animations 1, section 3).
 use Rattle.std.specs.Prelude.{◌≡◌, ◌≢◌, ◌⊎◌, ◌^◌, ◌<◌, pos, ◌≤ℤ◌, ◌<ℤ◌, List, All, AllPairs, IfSome}
 use Rattle.value_types.specs.declared.frame.Frame.{Frame}
 use Rattle.value_types.specs.declared.property.PropertyId.TheVariants as property

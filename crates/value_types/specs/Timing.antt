@@ -1,4 +1,4 @@
--- The bounds of easings and of the items of timing lists (CSS Easing 1; CSS Transitions 1, section 2; CSS Animations 1, section 3).
+-- The bounds of easings and of the items of timing lists (CSS Easing 1; CSS Transitions 1, section 2; CSS Animations 1, section 4).
 use Rattle.std.specs.Prelude.{ℕ, ◌^◌, ◌≤◌, ℤ, pos, ◌≤ℤ◌, unsigned_abs, ⊤}
 use Rattle.fix_num.specs.declared.units.Micros.{Micros}
 use Rattle.value_types.specs.declared.easing.Easing.{Easing}

@@ -1,4 +1,4 @@
--- The timing lists of an element (CSS Transitions 1, section 2; CSS Animations 1, section 3).
+-- The timing lists of an element (CSS Transitions 1, section 2; CSS Animations 1, section 4).
 use Rattle.std.specs.Prelude.{ℕ, ◌<◌, List, [], ◌∷◌, length, All, pos, Option, None}
 use Rattle.fix_num.specs.declared.units.Micros.{Micros}
 use Rattle.value_types.specs.declared.easing.Easing.{Easing}

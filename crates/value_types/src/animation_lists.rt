@@ -12,7 +12,7 @@ use fix_num::{Fix, Micros};
 use std::alloc::{AllocError, Global};
 use std::marker::Model;
 
-/// The eight lists that time the animations of an element (CSS Animations 1, section 3). Durations are 0 to
+/// The eight lists that time the animations of an element (CSS Animations 1, section 4). Durations are 0 to
 /// 10^15 microseconds, delays within 10^15, counts 0 to 10^12 millionths or without end, easings within their
 /// bounds; none is empty.
 #[derive(Debug, Drop)]
