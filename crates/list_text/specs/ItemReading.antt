@@ -118,10 +118,12 @@ Gives view (Ok x) wanted = wanted ≡ Ok (view x)
 Gives view (Err NoMemory) wanted = ⊤
 Gives view (Err e) wanted = wanted ≡ Err e
 
+-- the answer with f of what it gives
 abbrev pub result_map : {X Y : Type 0} → (X → Y) → Result X ValueFault → Result Y ValueFault
 result_map f (Ok x) = Ok (f x)
 result_map f (Err e) = Err e
 
+-- the answer for the items that stand between commas
 abbrev pub items_of : {B : Type 0} → (List Piece → Option B) → (B → Bool) → List Piece → Result (List B) ValueFault
 items_of item within parts = limited within (each_of item (groups_of false parts))
 
@@ -134,9 +136,11 @@ abbrev pub is_word : (List ℕ → Bool) → List Piece → Bool
 is_word test (Ident w ∷ []) = test w
 is_word test _ = false
 
+-- the parts are one of the keywords that stand for the initial value
 abbrev pub is_initial : List Piece → Bool
 is_initial = is_word (λ w. names w (codes "initial") || names w (codes "unset"))
 
+-- the answer for transition-property, where `none` alone is the list of no item
 unfoldable pub properties_of : List Piece → Result ListValue ValueFault
 properties_of parts =
     (if is_word (λ w. names w (codes "none")) parts then Ok (Properties [])

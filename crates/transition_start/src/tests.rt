@@ -66,53 +66,41 @@ fn decided(after: i64, matched: Option<Match>) -> Option<Decision> {
     ))
 }
 
+/// The reversing-adjusted start value in millionths, the start and the end in milliseconds, and the factor in
+/// millionths.
+type Timing = (i64, i64, i64, i64);
+
+fn timing_of(running: Option<Running>) -> Option<Timing> {
+    let r = running?.get();
+    let Value::Number(adjusted) = r.adjusted else {
+        return None;
+    };
+    Some((
+        adjusted.0,
+        r.start.0 / 1000,
+        r.end.0 / 1000,
+        r.factor.0 / 1000,
+    ))
+}
+
 #[test]
 fn interrupts(rt: HostRuntime) -> Result<(), Fail> {
-    // The after-change value and the match, and what then runs: the reversing-adjusted start value in
-    // millionths, the start and the end in milliseconds, and the factor in millionths.
-    let rows = [
-        (500_000, Some(item(1000, 0)), None),
+    let second = Some(item(1000, 0));
+    let early = Some(item(1000, -400));
+    // The after-change value and the match, and what then runs.
+    for (after, matched, expected) in [
+        (500_000, second, None),
         (250_000, Some(item(0, 0)), None),
-        (
-            0,
-            Some(item(1000, 0)),
-            Some((1_000_000, 500, 1000, 500_000)),
-        ),
-        (
-            0,
-            Some(item(1000, -400)),
-            Some((1_000_000, 300, 800, 500_000)),
-        ),
-        (
-            250_000,
-            Some(item(1000, 0)),
-            Some((500_000, 500, 1500, 1_000_000)),
-        ),
+        (0, second, Some((1_000_000, 500, 1000, 500_000))),
+        (0, early, Some((1_000_000, 300, 800, 500_000))),
+        (250_000, second, Some((500_000, 500, 1500, 1_000_000))),
         (1_000_000, None, None),
-    ];
-    for (after, matched, expected) in rows {
+    ] {
         let decision = decided(after, matched).ok_or("an opacity is out of range")?;
         let gone = decision.gone.ok_or("nothing was cancelled")?;
-        assert_eq!(rt;
-            (gone.elapsed, gone.cancelled, gone.generation),
-            (HALF, HALF, 1)
-        );
-        let found = decision.running.map(|r| {
-            let r = r.get();
-            (
-                r.adjusted,
-                r.start.0 / 1000,
-                r.end.0 / 1000,
-                r.factor.0 / 1000,
-            )
-        });
-        let wanted = expected.map(|e: (i64, i64, i64, i64)| (
-            Value::Number(Fix(e.0)),
-            e.1,
-            e.2,
-            e.3,
-        ));
-        assert_eq!(rt; found, wanted, "to {after}");
+        let told = (gone.elapsed, gone.cancelled, gone.generation);
+        assert_eq!(rt; told, (HALF, HALF, 1));
+        assert_eq!(rt; timing_of(decision.running), expected, "to {after}");
     }
     Ok(())
 }

@@ -19,52 +19,38 @@ fn length(amount: i64, unit: Unit) -> Declared
     })
 }
 
+fn sum(px: i64, pct: i64) -> Value {
+    Value::Length {
+        px: Fix(px),
+        pct: Fix(pct),
+    }
+}
+
+fn pair(x_px: i64, y_px: i64, y_pct: i64) -> Value {
+    Value::Pair {
+        x_px: Fix(x_px),
+        x_pct: Fix(0),
+        y_px: Fix(y_px),
+        y_pct: Fix(y_pct),
+    }
+}
+
 #[test]
 fn prints_values(rt: HostRuntime) -> Result<(), Fail> {
+    let red = Value::Color {
+        r: 255,
+        g: 0,
+        b: 7,
+        a: Fix(501_961),
+    };
     for (value, want) in [
         (Value::Number(Fix(500_000)), "0.5"),
-        (
-            Value::Length {
-                px: Fix(-5 * ONE),
-                pct: Fix(25 * ONE),
-            },
-            "calc(25% - 5px)",
-        ),
-        (
-            Value::Length {
-                px: Fix(0),
-                pct: Fix(50 * ONE),
-            },
-            "50%",
-        ),
+        (sum(-5 * ONE, 25 * ONE), "calc(25% - 5px)"),
+        (sum(0, 50 * ONE), "50%"),
         (Value::Int(-2_147_483_647), "-2147483647"),
-        (
-            Value::Color {
-                r: 255,
-                g: 0,
-                b: 7,
-                a: Fix(501_961),
-            },
-            "rgba(255, 0, 7, 0.501961)",
-        ),
-        (
-            Value::Pair {
-                x_px: Fix(ONE),
-                x_pct: Fix(0),
-                y_px: Fix(0),
-                y_pct: Fix(0),
-            },
-            "1px",
-        ),
-        (
-            Value::Pair {
-                x_px: Fix(0),
-                x_pct: Fix(0),
-                y_px: Fix(ONE),
-                y_pct: Fix(2 * ONE),
-            },
-            "0px calc(2% + 1px)",
-        ),
+        (red, "rgba(255, 0, 7, 0.501961)"),
+        (pair(ONE, 0, 0), "1px"),
+        (pair(0, ONE, 2 * ONE), "0px calc(2% + 1px)"),
         (Value::Angle(Fix(-90 * ONE)), "-90deg"),
     ] {
         let mut out = Vec::new(rt.alloc());
