@@ -83,17 +83,23 @@ fn timing_of(running: Option<Running>) -> Option<Timing> {
     ))
 }
 
+fn lasting(duration: u16, delay: i16) -> Option<Match> {
+    Some(item(duration, delay))
+}
+
 #[test]
 fn interrupts(rt: HostRuntime) -> Result<(), Fail> {
-    let second = Some(item(1000, 0));
-    let early = Some(item(1000, -400));
     // The after-change value and the match, and what then runs.
     for (after, matched, expected) in [
-        (500_000, second, None),
-        (250_000, Some(item(0, 0)), None),
-        (0, second, Some((1_000_000, 500, 1000, 500_000))),
-        (0, early, Some((1_000_000, 300, 800, 500_000))),
-        (250_000, second, Some((500_000, 500, 1500, 1_000_000))),
+        (500_000, lasting(1000, 0), None),
+        (250_000, lasting(0, 0), None),
+        (0, lasting(1000, 0), Some((1_000_000, 500, 1000, 500_000))),
+        (0, lasting(1000, -400), Some((1_000_000, 300, 800, 500_000))),
+        (
+            250_000,
+            lasting(1000, 0),
+            Some((500_000, 500, 1500, 1_000_000)),
+        ),
         (1_000_000, None, None),
     ] {
         let decision = decided(after, matched).ok_or("an opacity is out of range")?;
