@@ -18,8 +18,6 @@ mod sink;
 mod source;
 mod std_sink;
 mod std_source;
-#[cfg(test)]
-mod tests;
 
 pub use fault::{Failed, LineFault, WriteFault};
 pub use limits::{CARRIAGE_RETURN, LINE_FEED, MAX_INPUT, MAX_LINE};

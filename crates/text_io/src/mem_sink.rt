@@ -8,7 +8,7 @@ ghost use Rattle.text_io.specs.Memory.{SinkState, IsListed, counted, taken_count
 use crate::fault::Failed;
 use crate::schedule::Schedule;
 use crate::sink::Sink;
-use std::alloc::AllocError;
+use std::alloc::{AllocError, Global};
 use std::marker::Model;
 
 /// A sink that keeps what it takes, and fails the calls that it is told to.
@@ -42,8 +42,13 @@ impl Model for MemSink {
 
 impl MemSink {
     /// A sink with room for so many bytes, which takes at most `most` a call; the calls whose numbers from 1 are in
-    /// `failing` fail. Its memory is that of the list.
-    pub fn new(room: usize, most: usize, failing: Vec<u64>) -> Result<MemSink, AllocError>
+    /// `failing` fail.
+    pub fn new(
+        alloc: Global,
+        room: usize,
+        most: usize,
+        failing: Vec<u64>,
+    ) -> Result<MemSink, AllocError>
         ensures { IfOk result (λ sink. sink ≡ record {
           held = [];
           room = room;
@@ -54,7 +59,6 @@ impl MemSink {
           empty_writes = 0;
         }) }
     {
-        let alloc = *failing.allocator();
         let bytes = Vec::with_capacity(alloc, room)?;
         Ok(MemSink {
             bytes,

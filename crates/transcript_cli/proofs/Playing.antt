@@ -57,12 +57,20 @@ not_write_fault : (status : Status) → IsFinished status → status ≡ WriteFa
 not_write_fault status (inl d) e = cc
 not_write_fault status (inr r) e = cc
 
+no_fault_finishes : (status : Status) → IsFinished status → (status ≡ ReadFault) ⊎ (status ≡ WriteFault) → ⊥
+no_fault_finishes status finished (inl e) = not_read_fault status finished e
+no_fault_finishes status finished (inr e) = not_write_fault status finished e
+
 not_finished : (status : Status) (taken s s' : ℕ) → HasEnd status taken s s' → IsFinished status → ⊥
 not_finished status taken s s' ended (inl d) = subst (λ (t : Status). HasEnd t taken s s') d ended
 not_finished status taken s s' ended (inr r) = subst (λ (t : Status). HasEnd t taken s s') r ended
 
 not_by_writing : (status : Status) (taken s s' : ℕ) → HasEnd status taken s s' → status ≡ WriteFault → ⊥
 not_by_writing status taken s s' ended e = subst (λ (t : Status). HasEnd t taken s s') e ended
+
+few_at_a_fault : (status : Status) (taken s s' : ℕ) → HasEnd status taken s s' → (status ≡ ReadFault) ⊎ (status ≡ WriteFault) → taken ≤ MAX_INPUT
+few_at_a_fault status taken s s' ended (inl e) = (subst (λ (t : Status). HasEnd t taken s s') e ended).0
+few_at_a_fault status taken s s' ended (inr e) = absurd (not_by_writing status taken s s' ended e)
 
 no_end : (status : Status) → IsFinished WriteFault → ⊥
 no_end status (inl d) = cc
@@ -92,6 +100,12 @@ gave_too_much None left taken more gave = tt
 gave_too_much (Some script) None taken more gave = absurd gave
 gave_too_much (Some script) (Some left) taken more (given, is, count) = (given, is, omega (arith, more, count))
 
+gave_in_time : (script left : Option (List ℕ)) (taken : ℕ) → taken ≤ MAX_INPUT → Told script left (Gave taken)
+    → IfSome script (λ bytes. (given : List ℕ) × Consumes script left given × (length given ≤ MAX_INPUT))
+gave_in_time None left taken few gave = tt
+gave_in_time (Some script) None taken few gave = absurd gave
+gave_in_time (Some script) (Some left) taken few (given, is, count) = (given, is, omega (arith, few, count))
+
 -- what was told, where the start is known
 told_known : (script now : Option (List ℕ)) (P : List ℕ → List ℕ → Type 0) (Q : List ℕ → Type 0) → ((x y : List ℕ) → now ≡ Some y → P x y → Q x) → Told script now P → IfSome script Q
 told_known None now P Q step told = tt
@@ -117,6 +131,7 @@ finishes status script left left' reader reader' w number refused s s' s'' befor
       too_much = λ e. absurd (not_too_much status finished e);
       read_fault = λ e. absurd (not_read_fault status finished e);
       write_fault = λ e. absurd (not_write_fault status finished e);
+      in_time = λ e. absurd (no_fault_finishes status finished e);
       source_later = let k = playing.source_later in omega (arith, later);
       faults_later = playing.faults_later;
       empty_writes_later = playing.empty_writes_later;
@@ -135,8 +150,9 @@ stops status script left left' reader reader' w number refused s s' s'' before n
       refused = λ e. absurd (not_finished status reader'.taken s' s'' ended (inr e));
       read = λ finished. absurd (not_finished status reader'.taken s' s'' ended finished);
       too_much = λ e. gave_too_much script left' reader'.taken (subst (λ (t : Status). HasEnd t reader'.taken s' s'') e ended) given;
-      read_fault = λ e. let k = playing.source_later in let rose : s' < s'' = subst (λ (t : Status). HasEnd t reader'.taken s' s'') e ended in omega (arith, rose);
+      read_fault = λ e. let k = playing.source_later in let rose : s' < s'' = (subst (λ (t : Status). HasEnd t reader'.taken s' s'') e ended).1 in omega (arith, rose);
       write_fault = λ e. absurd (not_by_writing status reader'.taken s' s'' ended e);
+      in_time = λ e. gave_in_time script left' reader'.taken (few_at_a_fault status reader'.taken s' s'' ended e) given;
       source_later = let k = playing.source_later in omega (arith, later);
       faults_later = playing.faults_later;
       empty_writes_later = playing.empty_writes_later;
@@ -145,10 +161,11 @@ stops status script left left' reader reader' w number refused s s' s'' before n
 -- a piece could not be written
 pub breaks : (script left left' : Option (List ℕ)) (reader reader' : Reader) (w : World) (number : ℕ) (refused : Bool) (s s' s'' : ℕ) (before now now' : Ends)
     → IsPlaying script left reader w number refused s s' before now
+    → Told left left' (IsTaken reader.taken reader'.taken) → reader'.taken ≤ MAX_INPUT
     → s' ≤ s'' → now.faults ≤ now'.faults → now.empty_writes ≤ now'.empty_writes
     → Rose now.faults now'.faults ⊎ RoseOrFull now.empty_writes now'.empty_writes
     → IsReplay WriteFault script left' s s'' before now'
-breaks script left left' reader reader' w number refused s s' s'' before now now' playing later faults empties cause = record {
+breaks script left left' reader reader' w number refused s s' s'' before now now' playing taken few later faults empties cause = record {
   transcript = λ finished. absurd (no_end WriteFault finished);
   done = λ e. cc;
   refused = λ e. cc;
@@ -156,6 +173,7 @@ breaks script left left' reader reader' w number refused s s' s'' before now now
   too_much = λ e. cc;
   read_fault = λ e. cc;
   write_fault = λ _. causes_earlier before now now' playing.faults_later playing.empty_writes_later cause;
+  in_time = λ _. gave_in_time script left' reader'.taken few (told_then script left left' (Gave reader.taken) (IsTaken reader.taken reader'.taken) (Gave reader'.taken) (λ x y z so_far step. gave_more reader.taken reader'.taken x y z so_far step) playing.taken taken);
   source_later = let k = playing.source_later in omega (arith, later);
   faults_later = let k = playing.faults_later in omega (arith, faults);
   empty_writes_later = let k = playing.empty_writes_later in omega (arith, empties);

@@ -34,7 +34,7 @@ AnswersLine w number before after refused piece w' =
 -- why reading and answering a line ended the run
 abbrev pub HasEnd : Status → ℕ → ℕ → ℕ → Type 0
 HasEnd TooMuch taken faults_before faults_now = MAX_INPUT < taken
-HasEnd ReadFault taken faults_before faults_now = Rose faults_before faults_now
+HasEnd ReadFault taken faults_before faults_now = (taken ≤ MAX_INPUT) × Rose faults_before faults_now
 HasEnd NoMemory taken faults_before faults_now = ⊤
 HasEnd Done taken faults_before faults_now = ⊥
 HasEnd Refused taken faults_before faults_now = ⊥

@@ -32,6 +32,8 @@ pub record IsReplay (status : Status) (script rest : Option (List ℕ)) (source_
   -- a fault has a cause
   pub read_fault : status ≡ ReadFault → Rose source_before source_now
   pub write_fault : status ≡ WriteFault → Rose before.faults now.faults ⊎ RoseOrFull before.empty_writes now.empty_writes
+  -- and ends the run before the source gave more than may be read
+  pub in_time : (status ≡ ReadFault) ⊎ (status ≡ WriteFault) → IfSome script (λ bytes. (given : List ℕ) × Consumes script rest given × (length given ≤ MAX_INPUT))
   -- no count falls
   pub source_later : source_before ≤ source_now
   pub faults_later : before.faults ≤ now.faults

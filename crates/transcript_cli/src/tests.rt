@@ -35,7 +35,7 @@ fn replayed(alloc: Global, script: &[u8], most: usize) -> Result<(Status, MemSin
     requires { 1 ≤ most }
 {
     let mut source = MemSource::new(Vec::from_slice(alloc, script)?, most, Vec::new(alloc));
-    let mut sink = MemSink::new(ROOM, usize::MAX, Vec::new(alloc))?;
+    let mut sink = MemSink::new(alloc, ROOM, usize::MAX, Vec::new(alloc))?;
     let status = replay_alone(alloc, &mut source, &mut sink);
     Ok((status, sink))
 }
@@ -103,7 +103,7 @@ fn words_are_refused(rt: HostRuntime) -> Result<(), Fail> {
         5,
         Vec::new(alloc),
     );
-    let mut sink = MemSink::new(ROOM, 3, Vec::new(alloc))?;
+    let mut sink = MemSink::new(alloc, ROOM, 3, Vec::new(alloc))?;
     words.push(String::from_str(alloc, "--workers")?)?;
     assert_eq!(rt;
         run(&rt, alloc, &words, &mut source, &mut sink, &IdleGate),
@@ -131,7 +131,7 @@ fn each_read_fails_in_turn(rt: HostRuntime) -> Result<(), Fail> {
                 most,
                 failing,
             );
-            let mut sink = MemSink::new(ROOM, 1000, Vec::new(alloc))?;
+            let mut sink = MemSink::new(alloc, ROOM, 1000, Vec::new(alloc))?;
             let status = replay_alone(alloc, &mut source, &mut sink);
             assert!(rt;
                 TRANSCRIPT.as_bytes().starts_with(sink.bytes()),
@@ -162,7 +162,7 @@ fn each_write_fails_in_turn(rt: HostRuntime) -> Result<(), Fail> {
                 1000,
                 Vec::new(alloc),
             );
-            let mut sink = MemSink::new(ROOM, most, failing)?;
+            let mut sink = MemSink::new(alloc, ROOM, most, failing)?;
             let status = replay_alone(alloc, &mut source, &mut sink);
             assert!(rt;
                 TRANSCRIPT.as_bytes().starts_with(sink.bytes()),
@@ -195,7 +195,7 @@ fn a_sink_without_room_ends_the_run(rt: HostRuntime) -> Result<(), Fail> {
             9,
             Vec::new(alloc),
         );
-        let mut sink = MemSink::new(room, most, vec![in alloc; failing]?)?;
+        let mut sink = MemSink::new(alloc, room, most, vec![in alloc; failing]?)?;
         assert_eq!(rt; replay_alone(alloc, &mut source, &mut sink), status);
         assert_eq!(rt; sink.bytes().len(), length);
         assert!(rt; TRANSCRIPT.as_bytes().starts_with(sink.bytes()));
@@ -209,7 +209,7 @@ fn as_much_as_may_be_read(rt: HostRuntime) -> Result<(), Fail> {
     for (bytes, status) in [(67_108_864, Status::Done), (67_108_865, Status::TooMuch)] {
         let feeds = vec![in alloc; b'\n'; bytes]?;
         let mut source = MemSource::new(feeds, usize::MAX, Vec::new(alloc));
-        let mut sink = MemSink::new(0, 1, Vec::new(alloc))?;
+        let mut sink = MemSink::new(alloc, 0, 1, Vec::new(alloc))?;
         assert_eq!(rt; replay_alone(alloc, &mut source, &mut sink), status);
     }
     Ok(())

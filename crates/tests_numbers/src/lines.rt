@@ -1,10 +1,18 @@
 //! Rows of lines and pieces, and that calls with memory to spare succeed.
-use crate::{
-    Failed, Line, LineFault, Lines, MAX_INPUT, MAX_LINE, MemSink, MemSource, Sink, Source, StdSink,
-    StdSource, WriteFault, put_all,
-};
 use std::alloc::Global;
 use std::test::Fail;
+use text_io::{
+    CARRIAGE_RETURN, Failed, LINE_FEED, Line, LineFault, Lines, MAX_INPUT, MAX_LINE, MemSink,
+    MemSource, Sink, Source, StdSink, StdSource, WriteFault, put_all,
+};
+
+#[test]
+fn constants(rt: HostRuntime) {
+    assert!(rt; MAX_INPUT == 67_108_864);
+    assert!(rt; MAX_LINE == 1_048_576);
+    assert!(rt; LINE_FEED == 10);
+    assert!(rt; CARRIAGE_RETURN == 13);
+}
 
 /// What a reader of lines answers to so many calls, up to the end.
 fn answers<S: Source>(alloc: Global, source: &mut S, calls: usize) -> Result<Vec<u8>, Fail> {
@@ -50,7 +58,7 @@ fn lines_in_any_pieces(rt: HostRuntime) -> Result<(), Fail> {
             let bytes = Vec::from_slice(alloc, text.as_bytes())?;
             let mut source = MemSource::new(bytes, most, Vec::new(alloc));
             let got = answers(alloc, &mut source, 16)?;
-            assert_eq!(rt; got.as_slice(), want.as_bytes(), "{text:?} by {most}");
+            assert!(rt; got.as_slice() == want.as_bytes());
         }
     }
     Ok(())
@@ -69,7 +77,7 @@ fn failing_reads(rt: HostRuntime) -> Result<(), Fail> {
         let bytes = Vec::from_slice(alloc, b"ab\ncd\n")?;
         let mut source = MemSource::new(bytes, most, vec![in alloc; failing, failing + 1]?);
         let got = answers(alloc, &mut source, 3)?;
-        assert_eq!(rt; got.as_slice(), want.as_bytes(), "{most} {failing}");
+        assert!(rt; got.as_slice() == want.as_bytes());
         // The fault was answered again without reading: the next call of the source is the second that fails.
         if failing < 4 {
             assert!(rt; source.read(&mut [0]) == Err(Failed));
@@ -99,7 +107,7 @@ fn limit_of_a_line(rt: HostRuntime) -> Result<(), Fail> {
             Ok(Line::Text) => Some(lines.text().len()),
             _ => None,
         };
-        assert_eq!(rt; got, want, "{len} {end:?}");
+        assert!(rt; got == want);
         let next = lines.next_line(&mut source);
         let is_last = end.is_empty();
         assert!(rt; next == Ok(if is_last { Line::End } else { Line::Text }));
@@ -116,7 +124,7 @@ fn limit_of_the_input(rt: HostRuntime) -> Result<(), Fail> {
         bytes.resize(len, b'a')?;
         let mut source = MemSource::new(bytes, 1 << 20, Vec::new(alloc));
         let got = answers(alloc, &mut source, 3)?;
-        assert_eq!(rt; got.as_slice(), want.as_bytes(), "{len}");
+        assert!(rt; got.as_slice() == want.as_bytes());
     }
     Ok(())
 }
@@ -134,12 +142,9 @@ fn pieces(rt: HostRuntime) -> Result<(), Fail> {
         (0, 3, 1, "", Ok(()), ""),
     ];
     for (room, most, failing, piece, want, held) in rows {
-        let mut sink = MemSink::new(room, most, vec![in alloc; failing]?)?;
-        assert!(rt;
-            put_all(&mut sink, piece.as_bytes()) == want,
-            "{room} {most} {failing}"
-        );
-        assert_eq!(rt; sink.bytes(), held.as_bytes(), "{room} {most} {failing}");
+        let mut sink = MemSink::new(alloc, room, most, vec![in alloc; failing]?)?;
+        assert!(rt; put_all(&mut sink, piece.as_bytes()) == want);
+        assert!(rt; sink.bytes() == held.as_bytes());
     }
     Ok(())
 }
@@ -149,11 +154,11 @@ fn readers_and_writers_of_std(rt: HostRuntime) -> Result<(), Fail> {
     let alloc = rt.alloc();
     let text: &[u8] = b"a\r\n\nb\r";
     let got = answers(alloc, &mut StdSource::new(text), 9)?;
-    assert_eq!(rt; got.as_slice(), b"=a;=;=b\r;end".as_slice());
+    assert!(rt; got.as_slice() == b"=a;=;=b\r;end".as_slice());
 
     let mut held = Vec::new(alloc);
     assert!(rt; put_all(&mut StdSink::new(&mut held), b"hello") == Ok(()));
-    assert_eq!(rt; held.as_slice(), b"hello".as_slice());
+    assert!(rt; held.as_slice() == b"hello".as_slice());
 
     let mut room = [0; 2];
     let mut sink = StdSink::new(room.as_mut_slice());

@@ -1,0 +1,8 @@
+//! Floor: numbers and bytes. The tests of its crates, of what no contract says: outside vectors, the limits typed
+//! from their source, and that calls with memory to spare succeed.
+#![tactic(auto)]
+
+#[cfg(test)]
+mod lines;
+#[cfg(test)]
+mod tokens;
