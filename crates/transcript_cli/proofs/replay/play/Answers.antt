@@ -1,6 +1,6 @@
 use Rattle.std.proofs.Common.{subst, List, ℕ}
 use Rattle.std.specs.Io.KnownBytes.{Appends}
-use Rattle.transcript_cli.proofs.Playing.{next, finishes, stops}
+use Rattle.transcript_cli.proofs.Playing.{breaks, next, finishes, stops}
 use Rattle.transcript_cli.proofs.replay.play.Goals as goal
 
 pub script-preserved : goal.script-preserved
@@ -22,3 +22,8 @@ returns-in-None-clause-replay g c =
 pub returns-in-Err-clause-replay : goal.returns-in-Err-clause-replay
 returns-in-Err-clause-replay g c =
     stops _ _ _ _ _ c.answer_next.new.lines _ _ _ _ _ _ _ _ c.script.invariant c.answer_next.ensures.taken c.answer_next.ensures.faults c.in-Err.ensures.cause
+
+pub returns-in_default-clause-replay : goal.returns-in_default-clause-replay
+returns-in_default-clause-replay g c =
+    breaks _ _ _ _ c.answer_next.new.lines _ _ _ _ _ _ _ _ _ c.script.invariant c.answer_next.ensures.taken c.in-Ok.ensures.within c.answer_next.ensures.faults
+    c.put_piece.ensures.faults c.put_piece.ensures.empty_writes c.in_default.ensures.cause
