@@ -1,5 +1,6 @@
 pub mod Decimal
 pub mod Digits
+pub mod Integer
 pub mod Parts
 pub mod Print
 pub mod Rounded

@@ -6,7 +6,7 @@ use Rattle.std.proofs.lemmas.Int.{ints, fits_signed_from_abs, to_z-of_z}
 use Rattle.std.specs.Int.{w32, w64, cast_signed, cast_unsigned}
 use mir.Val.{SFits}
 use Rattle.std.proofs.Math.Nat.{mul-le-mul_right}
-use Rattle.fix_num.specs.Decimal.{Decimal, IsDecimal, decimal_of, signed, unsigned_of}
+use Rattle.fix_num.specs.Decimal.{Decimal, IsDecimal, decimal_of, signed_number, unsigned_of}
 use Rattle.fix_num.specs.Rounded.{StandsNear, rounded_reading_of, rounded_units}
 use Rattle.fix_num.specs.Rounding.{IsNearest}
 use Rattle.fix_num.specs.declared.decimal.NumFault.TheVariants.{Syntax, TooFine, TooLarge}
@@ -50,7 +50,7 @@ is_minus_of m b (pos n) some size h =
     absurd (omega (arith, ints, h.not_above, more))
 is_minus_of m b (negsuc n) some size h = refl
 
-minus_at : (negative : Bool) (m b : ℕ) (v : ℤ) → 0 < b → 0 < unsigned_abs v → IsNearest (signed negative m) (pos b) v → is_minus v ≡ negative
+minus_at : (negative : Bool) (m b : ℕ) (v : ℤ) → 0 < b → 0 < unsigned_abs v → IsNearest (signed_number negative m) (pos b) v → is_minus v ≡ negative
 minus_at true m b v some size h = is_minus_of m b v some size h
 minus_at false m b v some size h = not_minus m b v some h
 
@@ -81,10 +81,10 @@ decimal_sign text d h = sign_chosen _ (slice_index text 0 == 45) _ _ _ _ d (unsi
 pub clamp_small : (limit : ℕ) (v : ℤ) → unsigned_abs v ≤ limit → clamp limit v ≡ v
 clamp_small limit v h = let e : nat_le (unsigned_abs v) limit ≡ true = grind (arith, nat_tests) in rw e refl
 
-pub clamp_large : (limit : ℕ) (v : ℤ) → limit < unsigned_abs v → clamp limit v ≡ signed (is_minus v) (limit + 1)
+pub clamp_large : (limit : ℕ) (v : ℤ) → limit < unsigned_abs v → clamp limit v ≡ signed_number (is_minus v) (limit + 1)
 clamp_large limit v h = let e : nat_le (unsigned_abs v) limit ≡ false = grind (arith, nat_tests) in rw e refl
 
-pub far : (places limit : ℕ) (text : List ℕ) → rounded_reading_of places limit text ≡ Err TooLarge → clamped places limit text ≡ Some (signed (slice_index text 0 == 45) (limit + 1))
+pub far : (places limit : ℕ) (text : List ℕ) → rounded_reading_of places limit text ≡ Err TooLarge → clamped places limit text ≡ Some (signed_number (slice_index text 0 == 45) (limit + 1))
 unfolding clamped
 far places limit text h =
     let told = far_told places limit text h in
@@ -93,7 +93,7 @@ far places limit text h =
     let some = power_positive (length near.0.fraction) in
     let minus : is_minus v ≡ near.0.negative = minus_at near.0.negative _ (10 ^ length near.0.fraction) v some (omega arith) near.2 in
     let first : near.0.negative ≡ (slice_index text 0 == 45) = decimal_sign text near.0 (found text near.0 near.1) in
-    rw (near_found places limit text v near) (ap Some (clamp_large limit v told.2 ∙ ap (λ b. signed b (limit + 1)) (minus ∙ first)))
+    rw (near_found places limit text v near) (ap Some (clamp_large limit v told.2 ∙ ap (λ b. signed_number b (limit + 1)) (minus ∙ first)))
 
 pub fair : (places limit : ℕ) (text : List ℕ) (v : ℤ) → rounded_reading_of places limit text ≡ Ok v → clamped places limit text ≡ Some v
 unfolding clamped
@@ -114,7 +114,7 @@ unfine places limit text h = absurd (never_fine places limit text h)
 
 -- ---- the same behind the casts of the code
 
-pub size_of_signed : (b : Bool) (n : ℕ) → unsigned_abs (signed b n) ≡ n
+pub size_of_signed : (b : Bool) (n : ℕ) → unsigned_abs (signed_number b n) ≡ n
 size_of_signed true n = omega (arith, ints)
 size_of_signed false n = refl
 
@@ -128,7 +128,7 @@ fair_value places limit text v few h =
     let same : cast_signed w64 (cast_unsigned w64 v) ≡ v = same_64 v (omega arith) in
     rw same (sym (fair places limit text v (sym h)))
 
-pub far_value : (places limit : ℕ) (text : List ℕ) (v : ℤ) → limit ≤ 10 ^ 15 → v ≡ signed (slice_index text 0 == 45) (limit + 1)
+pub far_value : (places limit : ℕ) (text : List ℕ) (v : ℤ) → limit ≤ 10 ^ 15 → v ≡ signed_number (slice_index text 0 == 45) (limit + 1)
     → Err TooLarge ≡ rounded_reading_of places limit text → Some (cast_signed w64 (cast_unsigned w64 v)) ≡ clamped places limit text
 far_value places limit text v few is h =
     let size : unsigned_abs v ≡ limit + 1 = ap unsigned_abs is ∙ size_of_signed (slice_index text 0 == 45) (limit + 1) in

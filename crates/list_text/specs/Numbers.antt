@@ -1,7 +1,7 @@
 -- Numbers of values (CSS Values 4, section 5), as large as they may be.
 use Rattle.std.specs.Prelude.{ℕ, ◌+◌, ◌==◌, ℤ, pos, negsuc, unsigned_abs, Bool, true, false, not, nat_le, if◌then◌else◌, List, IsTrue, Option, None, Some, option_map}
 use Rattle.std.specs.List.{list_all}
-use Rattle.fix_num.specs.Decimal.{decimal_of, signed}
+use Rattle.fix_num.specs.Decimal.{decimal_of, signed_number}
 use Rattle.fix_num.specs.Rounded.{StandsNear, rounded_units}
 
 -- the text is an integer: a number without a point
@@ -22,7 +22,7 @@ is_minus (negsuc n) = true
 
 -- the number, where its size passes the limit with one above that as its size
 abbrev pub clamp : ℕ → ℤ → ℤ
-clamp limit v = (if nat_le (unsigned_abs v) limit then v else signed (is_minus v) (limit + 1))
+clamp limit v = (if nat_le (unsigned_abs v) limit then v else signed_number (is_minus v) (limit + 1))
 
 -- the nearest number, clamped
 unfoldable pub clamped : ℕ → ℕ → List ℕ → Option ℤ

@@ -4,7 +4,7 @@ use Rattle.std.specs.Prelude.{if◌then◌else◌, not, neg_ℤ, ◌≤ℤ◌, s
 use Rattle.std.proofs.lemmas.Bool.Decides.{nat_tests}
 use Rattle.std.proofs.lemmas.Int.{ints}
 use Rattle.std.proofs.Math.Nat.{mul-le-mul_right}
-use Rattle.fix_num.specs.Decimal.{Decimal, decimal_of, signed, unsigned_of}
+use Rattle.fix_num.specs.Decimal.{Decimal, decimal_of, signed_number, unsigned_of}
 use Rattle.fix_num.specs.Rounded.{StandsNear, rounded_reading_of}
 use Rattle.fix_num.specs.Rounding.{IsNearest}
 use Rattle.fix_num.specs.declared.decimal.NumFault.{NumFault}
@@ -39,7 +39,7 @@ is_minus_of m b (pos n) some size h =
     absurd (omega (arith, ints, h.not_above, more))
 is_minus_of m b (negsuc n) some size h = refl
 
-minus_at : (negative : Bool) (m b : ℕ) (v : ℤ) → 0 < b → 0 < unsigned_abs v → IsNearest (signed negative m) (pos b) v → is_minus v ≡ negative
+minus_at : (negative : Bool) (m b : ℕ) (v : ℤ) → 0 < b → 0 < unsigned_abs v → IsNearest (signed_number negative m) (pos b) v → is_minus v ≡ negative
 minus_at true m b v some size h = is_minus_of m b v some size h
 minus_at false m b v some size h = not_minus m b v some h
 
