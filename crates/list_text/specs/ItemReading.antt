@@ -36,9 +36,9 @@ micros v = record { 0 = v }
 
 -- a time that may be negative, or may not
 unfoldable pub micros_of : Numbers → Bool → List Piece → Option Micros
-micros_of num signed_number parts = do
+micros_of num signed parts = do
   v ← time_of num parts
-  if signed_number then Some (micros v) else option_map (λ n. micros (pos n)) (not_negative v)
+  if signed then Some (micros v) else option_map (λ n. micros (pos n)) (not_negative v)
 
 abbrev pub count_word : List ℕ → Option Count
 count_word w = (if names w (codes "infinite") then Some count.Infinite else None)

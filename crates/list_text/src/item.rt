@@ -223,7 +223,7 @@ fn has_sign(name: ListName) -> bool
 
 #[tactic(auto, unfolding(crate::specs::ItemReading::micros_of))]
 fn micros_of(signed: bool, parts: &[Part]) -> Option<Micros>
-    ensures { result ≡ micros_of clamped signed_number (map seen parts.now) }
+    ensures { result ≡ micros_of clamped signed (map seen parts.now) }
 {
     let time = time_of(parts)?;
     if !signed && time < 0 {

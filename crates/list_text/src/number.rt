@@ -1,6 +1,5 @@
 //! Numbers past their limits.
-ghost use Rattle.std.specs.Prelude.{◌≡◌, ◌+◌, ◌^◌, ◌==◌, ◌≤◌, pos, ◌≤ℤ◌, not, unsigned_abs, slice_index};
-ghost use Rattle.std.specs.List.{list_all};
+ghost use Rattle.std.specs.Prelude.{◌≡◌, ◌+◌, ◌^◌, ◌==◌, ◌≤◌, pos, ◌≤ℤ◌, unsigned_abs, slice_index};
 ghost use Rattle.fix_num.specs.Decimal.{signed_number};
 ghost use Rattle.list_text.specs.Numbers.{clamped, not_negative};
 ghost use Rattle.list_text.specs.Reading.{natural};
@@ -55,11 +54,4 @@ fn not_negative(number: i64) -> Option<u64>
         return None;
     }
     Some(number as u64)
-}
-
-/// Whether the number has no point.
-pub(crate) fn has_no_point(text: &[u8]) -> bool
-    ensures { result ≡ list_all (λ b. not (b == 46)) text.now }
-{
-    text.iter().all(|byte| *byte != b'.')
 }
