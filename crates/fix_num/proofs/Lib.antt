@@ -1,3 +1,4 @@
+pub mod ClampLemmas
 pub mod DecimalLemmas
 pub mod IntegerLemmas
 pub mod PrintLemmas

@@ -1,3 +1,4 @@
+pub mod Clamping
 pub mod Decimal
 pub mod Digits
 pub mod Integer
