@@ -5,7 +5,7 @@ use Rattle.std.specs.Int.{w64}
 use Rattle.std.proofs.lemmas.Int.{ints, clamps}
 use Rattle.std.proofs.Math.Nat.{mul-le-mul_left}
 use mir.Val.{SFits}
-use Rattle.fix_num.specs.Rounding.{rounded, IsNearest}
+use Rattle.fix_num.specs.Rounding.{rounded_quotient, IsNearest}
 use Rattle.fix_num.proofs.RoundingLemmas.{nearest}
 use Rattle.interpolation.specs.Interpolation.{IsBetween}
 use Rattle.interpolation.specs.Numbers.{clamped, on_the_way}
@@ -39,7 +39,7 @@ pub way_fits : (a b q : ℤ) → pos 0 ≤ℤ q → q ≤ℤ pos (10 ^ 9) → Is
 unfolding on_the_way
 way_fits a b (pos q) low high =
     let t = (b -ℤ a) *ℤ pos q in
-    let part = part_fits (b -ℤ a) t (rounded t (pos (10 ^ 9))) (product_fits (b -ℤ a) q (10 ^ 9) (omega (arith, ints))) (nearest t (pos (10 ^ 9)) (omega (arith, ints))) in
+    let part = part_fits (b -ℤ a) t (rounded_quotient t (pos (10 ^ 9))) (product_fits (b -ℤ a) q (10 ^ 9) (omega (arith, ints))) (nearest t (pos (10 ^ 9)) (omega (arith, ints))) in
     record { low = omega (arith, ints, clamps); high = omega (arith, ints, clamps) }
 way_fits a b (negsuc q) low high = absurd (omega (arith, ints))
 

@@ -3,7 +3,7 @@ use Rattle.std.proofs.Common.{◌≡◌, ℕ, ◌^◌, refl, arith}
 use Rattle.std.specs.Prelude.{ℤ, pos, neg_ℤ, ◌*ℤ◌, ◌≤ℤ◌, Bool, true, false, if◌then◌else◌, ◌||◌, MatchBool}
 use Rattle.std.specs.Ordering.{int_eq}
 use Rattle.std.proofs.lemmas.Int.{ints}
-use Rattle.fix_num.specs.Rounding.{rounded}
+use Rattle.fix_num.specs.Rounding.{rounded_quotient}
 use Rattle.fix_num.specs.declared.units.Fix.{Fix}
 use Rattle.value_types.specs.Table.{fix, black, range_of, keeps_percent}
 use Rattle.value_types.specs.Validity.{IsValid, IsNumberFor, IsPercentFor, IsInRange, IsWithinLimit, IsInteger, IsAlpha}
@@ -74,7 +74,7 @@ number_valid p m n q = number_for p (number_between p m n q) (clamped_in (range_
 
 -- between percents that are 0 stands 0
 zero_way : (q : ℤ) → on_the_way (pos 0) (pos 0) q ≡ pos 0
-unfolding on_the_way rounded
+unfolding on_the_way rounded_quotient
 zero_way q = let e : pos 0 *ℤ q ≡ pos 0 = omega (arith, ints) in rw e refl
 
 clamped_zero : (r : ValueRange) → clamped (lowest r) (highest r) (pos 0) ≡ pos 0

@@ -1,7 +1,7 @@
 -- Interpolation of colours by premultiplied channels (CSS Color 4, section 12.3, "interpolating with alpha").
 use Rattle.std.specs.Prelude.{ℕ, ◌^◌, ℤ, pos, ◌+ℤ◌, ◌-ℤ◌, ◌*ℤ◌, unsigned_abs, if◌then◌else◌}
 use Rattle.std.specs.Ordering.{int_eq}
-use Rattle.fix_num.specs.Rounding.{rounded}
+use Rattle.fix_num.specs.Rounding.{rounded_quotient}
 use Rattle.fix_num.specs.declared.units.Fix.{Fix}
 use Rattle.value_types.specs.Table.{black}
 use Rattle.value_types.specs.declared.value.Value.{Value}
@@ -22,7 +22,7 @@ premultiplied_between c d q = (c *ℤ pos (10 ^ 9)) +ℤ ((d -ℤ c) *ℤ q)
 
 -- the channel that is this one when it is premultiplied with the alpha, from 0 to 255
 unfoldable pub channel_of : ℤ → Fix → ℕ
-channel_of v alpha = unsigned_abs (clamped (pos 0) (pos 255) (rounded v (pos (10 ^ 9) *ℤ alpha.0)))
+channel_of v alpha = unsigned_abs (clamped (pos 0) (pos 255) (rounded_quotient v (pos (10 ^ 9) *ℤ alpha.0)))
 
 -- the channel at output q on the way from c with alpha a to d with alpha b, where that has this alpha
 abbrev pub channel_between : ℕ → Fix → ℕ → Fix → ℤ → Fix → ℕ

@@ -2,7 +2,7 @@
 -- "animating properties"). Numbers are millionths; outputs are billionths and may lie outside 0 to 1.
 use Rattle.std.specs.Prelude.{◌^◌, ℤ, pos, ◌+ℤ◌, ◌-ℤ◌, ◌*ℤ◌, neg_ℤ}
 use Rattle.std.specs.Int.{int_min, int_max}
-use Rattle.fix_num.specs.Rounding.{rounded}
+use Rattle.fix_num.specs.Rounding.{rounded_quotient}
 use Rattle.fix_num.specs.declared.units.Fix.{Fix}
 use Rattle.value_types.specs.Table.{range_of}
 use Rattle.value_types.specs.declared.property.PropertyId.{PropertyId}
@@ -15,7 +15,7 @@ clamped low high v = int_max (int_min v high) low
 
 -- the number at output q on the way from a to b, halves towards plus infinity
 unfoldable pub on_the_way : ℤ → ℤ → ℤ → ℤ
-on_the_way a b q = a +ℤ rounded ((b -ℤ a) *ℤ q) (pos (10 ^ 9))
+on_the_way a b q = a +ℤ rounded_quotient ((b -ℤ a) *ℤ q) (pos (10 ^ 9))
 
 -- the least and the greatest number of a range within the limit of a million
 abbrev pub lowest : ValueRange → ℤ

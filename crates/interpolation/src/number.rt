@@ -1,6 +1,6 @@
 //! Numbers at an output.
 ghost use Rattle.std.specs.Prelude.{◌≡◌, ◌≤◌, ◌*◌, ◌^◌, pos, ◌*ℤ◌, ◌≤ℤ◌, unsigned_abs};
-ghost use Rattle.fix_num.specs.Rounding.{rounded};
+ghost use Rattle.fix_num.specs.Rounding.{rounded_quotient};
 ghost use Rattle.value_types.specs.Validity.{IsInteger, IsWithinLimit};
 ghost use Rattle.interpolation.specs.Numbers.{clamped, highest, integer_between, lowest, number_between, on_the_way};
 
@@ -58,7 +58,7 @@ pub(crate) fn on_the_way(a: i64, b: i64, q: i64) -> i128
 fn part(difference: i128, q: i64) -> i128
     requires difference { unsigned_abs difference ≤ 2 * 10 ^ 12 }
     requires output { unsigned_abs q ≤ 4 * 10 ^ 10 }
-    ensures value { result ≡ rounded (difference *ℤ q) (pos (10 ^ 9)) }
+    ensures value { result ≡ rounded_quotient (difference *ℤ q) (pos (10 ^ 9)) }
     ensures size { unsigned_abs result ≤ 8 * 10 ^ 22 }
 {
     rnd(difference * i128::from(q), i128::from(ONE_OUTPUT))

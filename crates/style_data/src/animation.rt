@@ -70,7 +70,7 @@ impl Animation {
 impl MadeWith<Global> for Animation {
     fn made_with(alloc: Global) -> Animation {
         Animation::new(AnimationState {
-            name: Name::empty(alloc),
+            name: Name::underscore(alloc),
             place: 0,
             first_place: 0,
             created: Micros(0),

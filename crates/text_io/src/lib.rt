@@ -1,4 +1,6 @@
-//! Lines of the bytes that a source gives, and whole pieces written to a sink.
+//! Floor: numbers and bytes. Knows no script and no CSS.
+//!
+//! Lines of the bytes that a source gives, and whole pieces written to a sink: `lines.next_line(&mut source)`, then `lines.text()`.
 //!
 //! A source or a sink may tell its bytes to contracts, and counts its faults, so that each error of a caller has a cause.
 #![tactic(auto)]

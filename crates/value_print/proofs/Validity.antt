@@ -2,7 +2,7 @@
 use Rattle.std.proofs.Common.{subst, ◌≡◌, ◌^◌, ◌≤◌, refl, arith, true, false, IsTrue}
 use Rattle.std.specs.Prelude.{if◌then◌else◌, ℤ, pos, negsuc, ◌*ℤ◌, ◌≤ℤ◌, unsigned_abs, ⊤}
 use Rattle.std.proofs.lemmas.Int.{ints, clamps}
-use Rattle.fix_num.specs.Rounding.{rounded}
+use Rattle.fix_num.specs.Rounding.{rounded_quotient}
 use Rattle.fix_num.specs.declared.units.Fix.{Fix}
 use Rattle.value_types.specs.declared.declared.Declared.{Declared}
 use Rattle.value_types.specs.declared.declared.Declared.TheVariants as declared
@@ -26,8 +26,8 @@ abbrev pub IsOpen : ValueRange → Type 0
 IsOpen range.ZeroToOne = ⊥
 IsOpen r = ⊤
 
-rounded_not_negative : (a b w : ℤ) → pos 0 ≤ℤ a → pos 0 ≤ℤ b → pos 1 ≤ℤ w → pos 0 ≤ℤ rounded (a *ℤ b) w
-unfolding rounded
+rounded_not_negative : (a b w : ℤ) → pos 0 ≤ℤ a → pos 0 ≤ℤ b → pos 1 ≤ℤ w → pos 0 ≤ℤ rounded_quotient (a *ℤ b) w
+unfolding rounded_quotient
 rounded_not_negative (pos a) (pos b) (pos w) p q r = omega (arith, ints)
 rounded_not_negative (negsuc a) b w p q r = absurd (omega (arith, ints))
 rounded_not_negative (pos a) (negsuc b) w p q r = absurd (omega (arith, ints))
@@ -38,7 +38,7 @@ within_limit_is v = omega (arith, ints, clamps)
 
 product_limit : (a b w : ℤ) → unsigned_abs (product a b w) ≤ 10 ^ 12
 unfolding product
-product_limit a b w = within_limit_is (rounded (a *ℤ b) w)
+product_limit a b w = within_limit_is (rounded_quotient (a *ℤ b) w)
 
 product_not_negative : (a b w : ℤ) → pos 0 ≤ℤ a → pos 0 ≤ℤ b → pos 1 ≤ℤ w → pos 0 ≤ℤ product a b w
 unfolding product

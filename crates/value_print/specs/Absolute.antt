@@ -2,7 +2,7 @@
 -- CSS Fonts 4, section 2.5), opacity from 0 to 1 (CSS Color 4, section 3.1).
 use Rattle.std.specs.Prelude.{◌^◌, ℤ, pos, neg_ℤ, ◌*ℤ◌, ◌≤ℤ◌, Bool, true, false, if◌then◌else◌, ⊤}
 use Rattle.std.specs.Int.{int_min, int_max}
-use Rattle.fix_num.specs.Rounding.{rounded}
+use Rattle.fix_num.specs.Rounding.{rounded_quotient}
 use Rattle.fix_num.specs.declared.units.Fix.{Fix}
 use Rattle.value_types.specs.declared.declared.Declared.{Declared}
 use Rattle.value_types.specs.declared.declared.Declared.TheVariants as declared
@@ -36,7 +36,7 @@ within_limit v = clamped (neg_ℤ (pos (10 ^ 12))) (pos (10 ^ 12)) v
 
 -- a times b, of which a counts as the part of a whole: rounded, and within the limit of a million
 unfoldable pub product : ℤ → ℤ → ℤ → ℤ
-product a b whole = within_limit (rounded (a *ℤ b) whole)
+product a b whole = within_limit (rounded_quotient (a *ℤ b) whole)
 
 abbrev pub times : Fix → Fix → ℤ → Fix
 times a b whole = record { 0 = product a.0 b.0 whole }

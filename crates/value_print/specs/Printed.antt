@@ -1,7 +1,7 @@
 -- Computed values as text (CSSOM, "Serializing CSS Values"; CSS Color 4, section 15; CSS Values 3, section 8.1.4).
 use Rattle.std.specs.Prelude.{ℕ, ℤ, pos, negsuc, unsigned_abs, ◌&&◌, if◌then◌else◌, List, [], ◌++◌, codes}
 use Rattle.std.specs.Ordering.{int_eq}
-use Rattle.fix_num.specs.Print.{text_of}
+use Rattle.fix_num.specs.Print.{decimal_text}
 use Rattle.fix_num.specs.declared.units.Fix.{Fix}
 use Rattle.value_types.specs.declared.value.Value.{Value}
 use Rattle.value_types.specs.declared.value.Value.TheVariants as value
@@ -9,11 +9,11 @@ use Rattle.value_print.specs.Keywords.{keyword_of_display, keyword_of_visibility
 
 -- a number of millionths and its unit
 abbrev pub number_text : ℤ → List ℕ → List ℕ
-number_text n unit = text_of 6 n ++ unit
+number_text n unit = decimal_text 6 n ++ unit
 
 -- a whole number
 abbrev pub whole_text : ℤ → List ℕ
-whole_text n = text_of 0 n
+whole_text n = decimal_text 0 n
 
 -- the sign of a sum's second part
 abbrev pub sign_text : ℤ → List ℕ

@@ -5,7 +5,7 @@ use Rattle.std.specs.List.{list_all}
 use Rattle.std.specs.Char.{is_ascii_hexdigit}
 use Rattle.std.proofs.lemmas.Bool.Decides.{nat_tests}
 use Rattle.std.proofs.lemmas.Int.{ints}
-use Rattle.fix_num.specs.Rounding.{rounded}
+use Rattle.fix_num.specs.Rounding.{rounded_quotient}
 use Rattle.fix_num.specs.declared.units.Fix.{Fix}
 use Rattle.fix_num.proofs.RoundingLemmas.{rounded_size}
 use Rattle.token_parts.specs.Keywords.{look_up}
@@ -70,7 +70,7 @@ never : {A : Type 0} → false ≡ true → A
 never h = absurd (cc)
 
 -- a percent of opacity is no greater as a number
-hundredth_in_limits : (n : Fix) → unsigned_abs n.0 ≤ 10 ^ 12 → IsDeclaredNumberFor property.Opacity (record { 0 = rounded n.0 (pos 100) })
+hundredth_in_limits : (n : Fix) → unsigned_abs n.0 ≤ 10 ^ 12 → IsDeclaredNumberFor property.Opacity (record { 0 = rounded_quotient n.0 (pos 100) })
 hundredth_in_limits n h = let size = rounded_size n.0 100 (omega arith) in record { limit = omega (arith, size); in_range = tt }
 
 percent_size : (p : PropertyId) (s : Size) → s.unit ≡ unit.Percent → IsTrue (takes p kind.Percent) → IsDeclaredNumberFor p s.amount → IsDeclaredFor p (declared_percent p s)
@@ -126,7 +126,7 @@ pair_below : (c d : ℕ) → IsTrue (is_ascii_hexdigit c) → IsTrue (is_ascii_h
 pair_below c d h k = let high = digit_below c h in let low = digit_below d k in omega (arith, high, low)
 
 part_of_255 : (h : ℕ) → h ≤ 255 → IsAlpha (record { 0 = alpha_of h })
-unfolding rounded
+unfolding rounded_quotient
 part_of_255 h small = (omega (arith, ints), omega (arith, ints))
 
 hex_digits_alpha : (text : List ℕ) (c : Rgba) → IsTrue (list_all is_ascii_hexdigit text) → hex_digits text ≡ Some c → IsAlpha c.a

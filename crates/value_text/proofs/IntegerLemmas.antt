@@ -4,21 +4,16 @@ use Rattle.std.specs.Prelude.{if◌then◌else◌}
 use Rattle.fix_num.specs.Decimal.{Stands, reading_of}
 use Rattle.fix_num.specs.declared.decimal.NumFault.{NumFault}
 use Rattle.fix_num.specs.declared.decimal.NumFault.TheVariants.{Syntax, TooFine, TooLarge}
+use Rattle.fix_num.specs.Integer.{has_no_point}
+use Rattle.fix_num.proofs.IntegerLemmas.{one_stands}
 use Rattle.fix_num.proofs.ReadingLemmas.{number_from, number_told, too_large_told, within_number}
 use Rattle.token_parts.specs.declared.fault.ValueFault.TheVariants.{Unsupported}
 use Rattle.value_text.specs.NumberReading.{channel_of, integer_from, integer_in, natural_from}
-use Rattle.value_text.specs.Numbers.{IsChannel, IsHeldInteger, has_no_point}
+use Rattle.value_text.specs.Numbers.{IsChannel, IsHeldInteger}
 use Rattle.value_text.proofs.Readings.{IsReading, nothing}
 
-one_stands : (text : List ℕ) (v w : ℤ) → Stands 0 text v → Stands 0 text w → v ≡ w
-one_stands text v w a b =
-    let limit : ℕ = unsigned_abs v + unsigned_abs w in
-    let first = number_from 0 limit text v (a, omega arith) in
-    let second = number_from 0 limit text w (b, omega arith) in
-    cc
-
 one_integer : (text : List ℕ) (i j : ℤ) → IsHeldInteger false text i → IsHeldInteger false text j → i ≡ j
-one_integer text i j h k = one_stands text i j h.value.value k.value.value
+one_integer text i j h k = one_stands 0 text i j h.value.value k.value.value
 
 -- what stands for a number is read, or passes the limit
 within_is_no_fault : (b : Bool) (v : ℤ) (f : NumFault) → (TooLarge ≡ f → ⊥) → cond b (Ok v) (Err TooLarge) ≡ Err f → ⊥
@@ -32,7 +27,7 @@ no_other_fault text v f h stands e =
 integer_at : (text : List ℕ) (res : Result ℤ NumFault) → has_no_point text ≡ true → reading_of 0 2147483647 text ≡ res
     → IsReading (λ held i. IsHeldInteger held text i) (integer_from res)
 integer_at text (Ok v) digits e = record {
-  given = λ i h. ap Ok (one_stands text v i told.0 h.value.value);
+  given = λ i h. ap Ok (one_stands 0 text v i told.0 h.value.value);
   found = λ i d. let same : v ≡ i = cc in subst (λ n. IsHeldInteger true text n) same (record { value = record { digits = digits; value = told.0 }; limit = λ held. told.1 });
   bound = λ d. absurd (cc);
   some = λ i h d. cc;
@@ -44,7 +39,7 @@ integer_at text (Ok v) digits e = record {
   told : Stands 0 text v × (unsigned_abs v ≤ 2147483647)
   told = number_told 0 2147483647 text v e
 integer_at text (Err TooLarge) digits e = record {
-  given = λ i h. let small = h.limit refl in let same = one_stands text told.0 i told.1 h.value.value in let size = ap unsigned_abs same in let far = told.2 in absurd (omega arith);
+  given = λ i h. let small = h.limit refl in let same = one_stands 0 text told.0 i told.1 h.value.value in let size = ap unsigned_abs same in let far = told.2 in absurd (omega arith);
   found = λ i d. absurd (cc);
   bound = λ d. (told.0, record { value = record { digits = digits; value = told.1 }; limit = λ held. absurd (cc) });
   some = λ i h d. cc;

@@ -1,6 +1,7 @@
 -- Numbers of values, as functions of the text.
 use Rattle.std.specs.Prelude.{ℕ, ◌==◌, ℤ, pos, negsuc, Bool, true, false, ◌&&◌, not, nat_le, nat_lt, if◌then◌else◌, length, slice_index, List, Option, None, Some, Result, Ok, Err}
 use Rattle.fix_num.specs.Decimal.{reading_of}
+use Rattle.fix_num.specs.Integer.{has_no_point}
 use Rattle.fix_num.specs.Rounded.{rounded_reading_of}
 use Rattle.fix_num.specs.declared.units.Fix.{Fix}
 use Rattle.fix_num.specs.declared.decimal.NumFault.{NumFault}
@@ -9,7 +10,6 @@ use Rattle.token_parts.specs.declared.fault.ValueFault.{ValueFault}
 use Rattle.token_parts.specs.declared.fault.ValueFault.TheVariants.{Unsupported, Bound}
 use Rattle.value_types.specs.declared.table.ValueRange.{ValueRange}
 use Rattle.value_types.specs.declared.table.ValueRange.TheVariants.{All, NotNegative, ZeroToOne, Nothing}
-use Rattle.value_text.specs.Numbers.{has_no_point}
 
 -- the number of millionths lies in the range
 abbrev pub is_in_range : ValueRange → ℤ → Bool

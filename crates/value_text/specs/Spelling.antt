@@ -1,6 +1,6 @@
 -- The spellings of a property's values: the "Value" line of its definition, by CSS Values 3, sections 2 and 4 to 6.
 use Rattle.std.specs.Prelude.{◌≡◌, ℕ, ℤ, pos, Bool, true, false, List, [], ◌∷◌, codes, IsTrue, Option, None, Some, Result, Ok, Err, ⊤}
-use Rattle.fix_num.specs.Rounding.{rounded}
+use Rattle.fix_num.specs.Rounding.{rounded_quotient}
 use Rattle.fix_num.specs.declared.units.Fix.{Fix}
 use Rattle.token_parts.specs.Keywords.{names, look_up}
 use Rattle.token_parts.specs.Parts.{Piece, Ident, Number, Dimension}
@@ -72,7 +72,7 @@ display_words =
 
 -- a percent of opacity is declared as a number (CSS Color 4, section 3.1)
 abbrev pub declared_percent : PropertyId → Size → Declared
-declared_percent Opacity s = declared.Number (record { 0 = rounded s.amount.0 (pos 100) })
+declared_percent Opacity s = declared.Number (record { 0 = rounded_quotient s.amount.0 (pos 100) })
 declared_percent p s = declared.Length s
 
 -- a colour, declared

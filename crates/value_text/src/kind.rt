@@ -1,6 +1,6 @@
 //! Values of one kind.
 ghost use Rattle.std.specs.Prelude.{if◌then◌else◌, ◌≡◌, ◌∷◌, map, option_map, pos, codes};
-ghost use Rattle.fix_num.specs.Rounding.{rounded};
+ghost use Rattle.fix_num.specs.Rounding.{rounded_quotient};
 ghost use Rattle.token_parts.specs.Keywords.{look_up, names};
 ghost use Rattle.token_parts.specs.Parts.{seen};
 ghost use Rattle.value_types.specs.Validity.{declared_range_of};
@@ -101,7 +101,7 @@ fn declared_percent(p: PropertyId, size: Size) -> Declared
 }
 
 fn hundredth(n: Fix) -> Fix
-    ensures { result ≡ record { 0 = rounded n.0 (pos 100) } }
+    ensures { result ≡ record { 0 = rounded_quotient n.0 (pos 100) } }
 {
     Fix(rnd(i128::from(n.0), 100) as i64)
 }

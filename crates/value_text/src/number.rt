@@ -1,23 +1,20 @@
 //! Numbers and integers of values.
-ghost use Rattle.std.specs.Prelude.{◌≡◌, ◌==◌, not};
-ghost use Rattle.std.specs.List.{list_all};
+ghost use Rattle.std.specs.Prelude.{◌≡◌};
 ghost use Rattle.value_text.specs.NumberReading.{begins_minus, channel_of, far_in_range, integer_in, is_in_range, number_in};
-ghost use Rattle.value_text.specs.Numbers.{has_no_point};
 
-use fix_num::{Fix, NumFault, read_decimal_bytes, read_rounded_bytes};
+use fix_num::limits::{MAX_INTEGER, MAX_NUMBER};
+use fix_num::{Fix, NumFault, has_no_point, read_decimal_bytes, read_rounded_bytes};
 use token_parts::ValueFault;
 use value_types::ValueRange;
 
-const LIMIT: i64 = 1_000_000_000_000;
-
-const LARGEST_INTEGER: i64 = 2_147_483_647;
+const LARGEST_INTEGER: i64 = MAX_INTEGER as i64;
 
 /// The number in millionths, which is in the range.
 #[tactic(auto, unfolding(crate::specs::NumberReading::number_in))]
 pub(crate) fn number(range: ValueRange, text: &[u8]) -> Result<Fix, ValueFault>
     ensures { result ≡ number_in range text.now }
 {
-    match read_rounded_bytes(text, 6, LIMIT) {
+    match read_rounded_bytes(text, 6, MAX_NUMBER as i64) {
         Ok(n) => {
             if is_in_range(range, n) {
                 Ok(Fix(n))
@@ -95,10 +92,4 @@ pub(crate) fn channel(text: &[u8]) -> Option<u8>
         return None;
     }
     Some(i as u8)
-}
-
-fn has_no_point(text: &[u8]) -> bool
-    ensures { result ≡ has_no_point text.now }
-{
-    text.iter().all(|byte| *byte != b'.')
 }

@@ -24,8 +24,8 @@ returns c =
     let second_wide : SFits w128 c.args.b = search rules in
     let third_wide : SFits w128 c.args.whole = search rules in
     let product_wide : SFits w128 (c.args.a *ℤ c.args.b) = fits_signed_from_abs w128 (c.args.a *ℤ c.args.b) (omega (arith, size)) in
-    let rounded = simp (first, second, third, to_z-of_z) at c.rnd.ensures.value in
+    let rounded_quotient = simp (first, second, third, to_z-of_z) at c.rnd.ensures.value in
     let nearest : SFits w128 c.rnd.result = record { sfits = c.rnd.type_inv } in
     let result : SFits w64 c.within_limit.result = record { sfits = c.within_limit.type_inv } in
     let limited = simp to_z-of_z at c.within_limit.ensures in
-    rw (to_z-of_z w64 c.within_limit.result result) (limited ∙ ap within_limit rounded)
+    rw (to_z-of_z w64 c.within_limit.result result) (limited ∙ ap within_limit rounded_quotient)

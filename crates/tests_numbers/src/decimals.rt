@@ -1,4 +1,10 @@
-use super::*;
+//! Tests of `fix_num`.
+
+use fix_num::limits::{MAX_BYTES, MAX_INTEGER, MAX_NUMBER, MAX_TIME};
+use fix_num::{
+    Bill, Fix, NumFault, has_no_point, print_fix, read_decimal, read_decimal_bytes, read_rounded,
+    read_rounded_bytes, rnd,
+};
 use std::test::Fail;
 
 #[test]
@@ -19,12 +25,8 @@ fn reads_decimals(rt: HostRuntime) {
         ("-", Err(NumFault::Syntax), Err(NumFault::Syntax)),
         ("1e3", Err(NumFault::Syntax), Err(NumFault::Syntax)),
     ] {
-        assert_eq!(rt; read_decimal(text, 3, 1_000_000), exact, "exactly {text}");
-        assert_eq!(rt;
-            read_rounded(text, 3, 1_000_000),
-            nearest,
-            "nearest to {text}"
-        );
+        assert!(rt; read_decimal(text, 3, 1_000_000) == exact);
+        assert!(rt; read_rounded(text, 3, 1_000_000) == nearest);
     }
 }
 
@@ -36,16 +38,8 @@ fn reads_up_to_the_limit(rt: HostRuntime) {
         ("9223372036854775808", Err(NumFault::TooLarge)),
         ("-9223372036854775808", Err(NumFault::TooLarge)),
     ] {
-        assert_eq!(rt;
-            read_decimal_bytes(text.as_bytes(), 0, i64::MAX),
-            want,
-            "exactly {text}"
-        );
-        assert_eq!(rt;
-            read_rounded_bytes(text.as_bytes(), 0, i64::MAX),
-            want,
-            "nearest to {text}"
-        );
+        assert!(rt; read_decimal_bytes(text.as_bytes(), 0, i64::MAX) == want);
+        assert!(rt; read_rounded_bytes(text.as_bytes(), 0, i64::MAX) == want);
     }
 }
 
@@ -60,7 +54,7 @@ fn prints_decimals(rt: HostRuntime) -> Result<(), Fail> {
     ] {
         let mut out = Vec::new(rt.alloc());
         print_fix(&mut out, value, 6)?;
-        assert_eq!(rt; out.as_slice(), want.as_bytes(), "at {value}");
+        assert!(rt; out.as_slice() == want.as_bytes());
     }
     Ok(())
 }
@@ -68,6 +62,23 @@ fn prints_decimals(rt: HostRuntime) -> Result<(), Fail> {
 #[test]
 fn rounds_halves_up(rt: HostRuntime) {
     for (dividend, want) in [(3, 2), (-3, -1), (-4, -2), (1, 1), (-1, 0)] {
-        assert_eq!(rt; rnd(dividend, 2), want, "{dividend} halves");
+        assert!(rt; rnd(dividend, 2) == want);
     }
+}
+
+#[test]
+fn finds_points(rt: HostRuntime) {
+    for (text, want) in [("-12", true), ("1.0", false), (".5", false), ("", true)] {
+        assert!(rt; has_no_point(text.as_bytes()) == want);
+    }
+}
+
+#[test]
+fn ones_and_limits(rt: HostRuntime) {
+    assert!(rt; Fix::ONE.0 == 1_000_000);
+    assert!(rt; Bill::ONE.0 == 1_000_000_000);
+    assert!(rt; MAX_NUMBER == 1_000_000 * 1_000_000);
+    assert!(rt; MAX_TIME == 1_000_000_000_000_000);
+    assert!(rt; MAX_INTEGER == 2_147_483_647);
+    assert!(rt; MAX_BYTES == 67_108_864);
 }
