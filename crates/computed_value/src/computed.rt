@@ -1,21 +1,24 @@
 //! Absolute values of declared ones.
-ghost use Rattle.std.specs.Prelude.{◌≡◌, ◌≤◌, ◌^◌, pos, ◌≤ℤ◌, unsigned_abs};
-ghost use Rattle.value_types.specs.Validity.{IsDeclaredFor, IsValid, IsWithinLimit};
-ghost use Rattle.value_print.specs.Absolute.{IsFontSize, IsSpecified, absolute_of, em_size_of, is_kept, opacity_of, percent_of, pixels_of, product, resolved, times, within_limit};
+ghost use Rattle.std.specs.Prelude.{◌≡◌, ◌≤◌, pos, ◌<ℤ◌, unsigned_abs};
+ghost use Rattle.fix_num.specs.declared.limits.TheConstants.{MAX_NUMBER};
+ghost use Rattle.value_types.specs.Ranges.{IsSize, IsWithinLimit};
+ghost use Rattle.value_types.specs.Validity.{IsDeclaredFor, IsValid};
+ghost use Rattle.computed_value.specs.Absolute.{IsSpecified, absolute_of, computed_opacity, em_size_of, is_kept, percent_of, pixels_of, product_within, resolved_value, size_times};
 
-use fix_num::{Fix, rnd};
-use value_types::{Declared, PropertyId, Size, Unit, Value};
-
-const ONE: i64 = 1_000_000;
+use fix_num::limits::MAX_NUMBER;
+use fix_num::{Fix, clamp, rounded_product};
+use value_types::{Declared, PropertyId, Size, Unit, Value, keeps_percent};
 
 /// A percent has this many millionths in a whole.
-const WHOLE: i64 = 100_000_000;
+const WHOLE: i64 = 100 * Fix::ONE.0;
 
-const LIMIT: i128 = 1_000_000_000_000;
+const LIMIT: i64 = MAX_NUMBER as i64;
 
 /// The computed value of a declared one: em, rem and the percents of `font-size` become pixels, and opacity
-/// is clamped to 0 to 1 (CSS Values 3, section 5.1; CSS Fonts 4, section 2.5; CSS Color 4, section 3.1). The
-/// sizes are the font sizes of the parent, of the element and of the root, in millionths of a pixel.
+/// is clamped to 0 to 1 (CSS Values 3, "Relative Lengths"; CSS Fonts 4, "Font size: the font-size property"; CSS
+/// Color 4, "Transparency: the opacity property"). The sizes are the font sizes of the parent, of the element and
+/// of the root, in millionths of a pixel. The declared value has to be one of the property and the sizes within
+/// their limits, since only then is what comes out a value of the property.
 pub fn absolute(
     p: PropertyId,
     d: &Declared,
@@ -25,9 +28,9 @@ pub fn absolute(
 ) -> Value
     requires specified { IsSpecified d.now }
     requires declared { IsDeclaredFor p d.now }
-    requires parent { IsFontSize parent_size }
-    requires own { IsFontSize own_size }
-    requires root { IsFontSize root_size }
+    requires parent { IsSize parent_size }
+    requires own { IsSize own_size }
+    requires root { IsSize root_size }
     ensures value { result ≡ absolute_of p d.now parent_size own_size root_size }
     ensures valid { IsValid p result }
 {
@@ -47,9 +50,7 @@ fn em_size(p: PropertyId, parent_size: Fix, own_size: Fix) -> Fix
 fn resolve(p: PropertyId, d: Declared, em: Fix, root: Fix) -> Value
     requires specified { IsSpecified d }
     requires declared { IsDeclaredFor p d }
-    requires em { IsFontSize em }
-    requires root { IsFontSize root }
-    ensures { result ≡ resolved p em root d }
+    ensures { result ≡ resolved_value p em root d }
 {
     match d {
         Declared::Inherit | Declared::Initial => unreachable!(),
@@ -74,16 +75,17 @@ fn resolve(p: PropertyId, d: Declared, em: Fix, root: Fix) -> Value
     }
 }
 
+#[tactic(auto, unfolding(crate::specs::Absolute::computed_opacity))]
 fn opacity(n: Fix) -> Fix
-    ensures { result ≡ opacity_of n }
+    ensures { result ≡ computed_opacity n }
 {
-    Fix(n.0.min(ONE).max(0))
+    Fix(clamp(i128::from(n.0), 0, Fix::ONE.0))
 }
 
 fn keeps(p: PropertyId, unit: Unit) -> bool
     ensures { result ≡ is_kept p unit }
 {
-    unit == Unit::Percent && p != PropertyId::FontSize
+    keeps_percent(p) && unit == Unit::Percent
 }
 
 fn percent(p: PropertyId, s: Size) -> Fix
@@ -93,9 +95,7 @@ fn percent(p: PropertyId, s: Size) -> Fix
 }
 
 fn pixels(p: PropertyId, s: Size, em: Fix, root: Fix) -> Fix
-    requires amount { IsWithinLimit s.amount }
-    requires em { IsFontSize em }
-    requires root { IsFontSize root }
+    requires { IsWithinLimit s.amount }
     ensures { result ≡ pixels_of p em root s }
 {
     if keeps(p, s.unit) {
@@ -103,33 +103,27 @@ fn pixels(p: PropertyId, s: Size, em: Fix, root: Fix) -> Fix
     }
     match s.unit {
         Unit::Px => s.amount,
-        Unit::Em => times(s.amount, em, ONE),
-        Unit::Rem => times(s.amount, root, ONE),
+        Unit::Em => times(s.amount, em, Fix::ONE.0),
+        Unit::Rem => times(s.amount, root, Fix::ONE.0),
         Unit::Percent => times(s.amount, em, WHOLE),
     }
 }
 
+/// A part of a size, of which a whole has this many.
 fn times(amount: Fix, size: Fix, whole: i64) -> Fix
     requires amount { IsWithinLimit amount }
-    requires size { IsFontSize size }
-    requires whole { pos 1 ≤ℤ whole }
-    ensures { result ≡ times amount size whole }
+    requires whole { pos 0 <ℤ whole }
+    ensures { result ≡ size_times amount size whole }
 {
     Fix(product(amount.0, size.0, whole))
 }
 
 /// The product, rounded and within the limit.
+#[tactic(auto, unfolding(crate::specs::Absolute::product_within))]
 fn product(a: i64, b: i64, whole: i64) -> i64
-    requires a { unsigned_abs a ≤ 10 ^ 12 }
-    requires b { unsigned_abs b ≤ 10 ^ 12 }
-    requires whole { pos 1 ≤ℤ whole }
-    ensures { result ≡ product a b whole }
+    requires first { unsigned_abs a ≤ MAX_NUMBER }
+    requires whole { pos 0 <ℤ whole }
+    ensures { result ≡ product_within a b whole }
 {
-    within_limit(rnd(i128::from(a) * i128::from(b), i128::from(whole)))
-}
-
-fn within_limit(v: i128) -> i64
-    ensures { result ≡ within_limit v }
-{
-    v.min(LIMIT).max(-LIMIT) as i64
+    clamp(rounded_product(a, b, whole), -LIMIT, LIMIT)
 }
