@@ -19,7 +19,8 @@ use Rattle.list_text.specs.Numbers.{clamp, clamped, nearest}
 use Rattle.list_text.specs.Easings.{IsAbscissa, IsEasingAnswer, IsEasingSpelling, IsStepCount, curve, easing_words, jump_words, steps, steps_and_jump, word}
 use Rattle.list_text.specs.ItemReading.{easing_read, judged}
 use Rattle.list_text.specs.Reading.{◌>>=◌, Numbers, abscissa, comma_at, curve_of, easing_of, easing_within, function_of, is_close, jump_of, natural, point_at, step_count, steps_of}
-use Rattle.list_text.proofs.OptionLemmas.{AllRows, bound, of_row, only_one, passed}
+use Rattle.token_parts.proofs.KeywordLemmas.{AllRows, of_row, only_one}
+use Rattle.list_text.proofs.OptionLemmas.{bound, passed}
 use Rattle.list_text.proofs.ViewLemmas.{Reads, as_it_is, at_limits, clamped_was, natural_found, natural_was, plain, same_test, sizes}
 
 -- the easing with its numbers seen so
