@@ -1,7 +1,7 @@
 //! Parts: what tokens say.
 ghost use Rattle.std.specs.Prelude.{◌≡◌, ◌++◌, All, List, map, IfOk, OnOk, option_map, option_to_list};
 ghost use Rattle.css_token.specs.TokenLists.{LiesWithin};
-ghost use Rattle.token_parts.specs.Parts.{piece_of, pieces_of, seen};
+ghost use Rattle.token_parts.specs.Parts.{token_part_at, token_parts_of, token_part};
 
 use css_token::{Kind, Token};
 use std::alloc::{AllocError, Global};
@@ -36,7 +36,7 @@ pub fn parts<'a>(
     tokens: &[Token],
 ) -> Result<Vec<Part<'a>>, AllocError>
     requires { All (LiesWithin text.now) tokens.now }
-    ensures { IfOk result (λ parts. map seen parts.items ≡ pieces_of text.now tokens.now) }
+    ensures { IfOk result (λ parts. map token_part parts.items ≡ token_parts_of text.now tokens.now) }
 {
     let mut parts = Vec::new(alloc);
     for token in tokens {
@@ -57,7 +57,7 @@ fn push_some<'a>(parts: &mut Vec<Part<'a>>, part: Option<Part<'a>>) -> Result<()
 /// What the token says; `None` for a space.
 fn part_of<'a>(text: &'a [u8], token: &Token) -> Option<Part<'a>>
     requires { LiesWithin text.now token.now }
-    ensures { option_map seen result ≡ piece_of text.now token.now.kind token.now.from token.now.to }
+    ensures { option_map token_part result ≡ token_part_at text.now token.now.kind token.now.from token.now.to }
 {
     let from = token.from as usize;
     let to = token.to as usize;

@@ -1,7 +1,7 @@
 -- Colours, as functions of the parts.
 use Rattle.std.specs.Prelude.{ℕ, pos, if◌then◌else◌, List, [], ◌∷◌, Option, None, Some, Result, Ok, Err}
 use Rattle.fix_num.specs.declared.units.Fix.{Fix}
-use Rattle.token_parts.specs.Parts.{Piece, Ident, Function, Hash, Number, Comma, Close}
+use Rattle.token_parts.specs.Parts.{TokenPart, Ident, Function, Hash, Number, Comma, Close}
 use Rattle.token_parts.specs.declared.fault.ValueFault.{ValueFault}
 use Rattle.value_types.specs.declared.range.ValueRange.TheVariants.{ZeroToOne}
 use Rattle.value_text.specs.declared.color.Rgba.{Rgba}
@@ -14,28 +14,28 @@ None >>= f = None
 (Some x) >>= f = f x
 
 -- the value, whatever the fault where there is none
-abbrev pub found : {A : Type 0} → Result A ValueFault → Option A
-found (Ok x) = Some x
-found (Err fault) = None
+abbrev pub option_of : {A : Type 0} → Result A ValueFault → Option A
+option_of (Ok x) = Some x
+option_of (Err fault) = None
 
 -- the channel that comes first, and the rest
-abbrev pub channel_at : List Piece → Option (ℕ × List Piece)
+abbrev pub channel_at : List TokenPart → Option (ℕ × List TokenPart)
 channel_at (Number text ∷ ps) = channel_of text >>= (λ n. Some (n, ps))
 channel_at _ = None
 
 -- what stands behind a comma
-abbrev pub comma_at : List Piece → Option (List Piece)
+abbrev pub comma_at : List TokenPart → Option (List TokenPart)
 comma_at (Comma ∷ ps) = Some ps
 comma_at _ = None
 
 -- the alpha up to the closing bracket
-abbrev pub alpha_at : List Piece → Option Fix
+abbrev pub alpha_at : List TokenPart → Option Fix
 alpha_at (Close ∷ []) = Some (record { 0 = pos 1000000 })
-alpha_at (Comma ∷ Number text ∷ Close ∷ []) = found (number_in ZeroToOne text)
+alpha_at (Comma ∷ Number text ∷ Close ∷ []) = option_of (number_in ZeroToOne text)
 alpha_at _ = None
 
 -- the colour of a function's arguments
-unfoldable pub arguments_of : List Piece → Option Rgba
+unfoldable pub arguments_of : List TokenPart → Option Rgba
 arguments_of parts = do
   r ← channel_at parts
   first ← comma_at r.1
@@ -46,7 +46,7 @@ arguments_of parts = do
   Some (record { r = r.0; g = g.0; b = b.0; a = a })
 
 -- the colour that the parts spell
-abbrev pub color_of : List Piece → Option Rgba
+abbrev pub color_of : List TokenPart → Option Rgba
 color_of (Ident word ∷ []) = color_named word
 color_of (Hash digits ∷ []) = hex_color digits
 color_of (Function name ∷ ps) = (if is_color_function name then arguments_of ps else None)

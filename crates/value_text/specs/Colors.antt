@@ -4,11 +4,11 @@ use Rattle.std.specs.List.{list_all}
 use Rattle.std.specs.Char.{is_ascii_hexdigit}
 use Rattle.fix_num.specs.Rounding.{rounded_quotient}
 use Rattle.fix_num.specs.declared.units.Fix.{Fix}
-use Rattle.token_parts.specs.Keywords.{names, look_up}
-use Rattle.token_parts.specs.Parts.{Piece, Ident, Function, Hash, Number, Comma, Close}
+use Rattle.token_parts.specs.Keywords.{is_keyword, look_up}
+use Rattle.token_parts.specs.Parts.{TokenPart, Ident, Function, Hash, Number, Comma, Close}
 use Rattle.value_types.specs.declared.range.ValueRange.TheVariants.{ZeroToOne}
 use Rattle.value_text.specs.declared.color.Rgba.{Rgba}
-use Rattle.value_text.specs.Numbers.{IsChannel, IsNumber}
+use Rattle.value_text.specs.Numbers.{IsChannel, IsNumberText}
 
 -- the names of opaque colours
 abbrev pub color_words : List (List ℕ × (ℕ × ℕ × ℕ))
@@ -42,7 +42,7 @@ opaque c = rgba c.0 c.1 c.2 (pos 1000000)
 
 -- the colour of this name
 unfoldable pub color_named : List ℕ → Option Rgba
-color_named word = (if names word (codes "transparent") then Some (rgba 0 0 0 (pos 0)) else option_map opaque (look_up color_words word))
+color_named word = (if is_keyword word (codes "transparent") then Some (rgba 0 0 0 (pos 0)) else option_map opaque (look_up color_words word))
 
 -- ---- hexadecimal colours
 
@@ -77,14 +77,14 @@ hex_color text = (if list_all is_ascii_hexdigit text then hex_digits text else N
 
 -- the name of a function that makes colours
 abbrev pub is_color_function : List ℕ → Bool
-is_color_function name = (if names name (codes "rgb") then true else names name (codes "rgba"))
+is_color_function name = (if is_keyword name (codes "rgb") then true else is_keyword name (codes "rgba"))
 
 -- an alpha: a number from 0 to 1
 abbrev pub IsAlphaText : List ℕ → Fix → Type 0
-IsAlphaText text a = IsNumber true ZeroToOne text a
+IsAlphaText text a = IsNumberText true ZeroToOne text a
 
 -- the parts spell the colour
-pub data IsColor : List Piece → Rgba → Type 0 where
+pub data IsColor : List TokenPart → Rgba → Type 0 where
   named : (word : List ℕ) (c : Rgba) → color_named word ≡ Some c → IsColor (Ident word ∷ []) c
   hexadecimal : (digits : List ℕ) (c : Rgba) → hex_color digits ≡ Some c → IsColor (Hash digits ∷ []) c
   channels : (name r g b : List ℕ) (c : Rgba) → IsTrue (is_color_function name) → IsChannel r c.r → IsChannel g c.g → IsChannel b c.b

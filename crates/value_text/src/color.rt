@@ -3,7 +3,7 @@ ghost use Rattle.std.specs.Prelude.{if◌then◌else◌, ◌≡◌, ◌<◌, pos
 ghost use Rattle.std.specs.List.{list_all};
 ghost use Rattle.token_parts.specs.Keywords.{look_up};
 ghost use Rattle.std.specs.Char.{is_ascii_hexdigit};
-ghost use Rattle.token_parts.specs.Parts.{seen};
+ghost use Rattle.token_parts.specs.Parts.{token_part};
 ghost use Rattle.value_text.specs.Colors.{alpha_of, color_named, color_words, digit_of, double_of, hex_color, hex_digits, is_color_function, pair_of};
 ghost use Rattle.value_text.specs.ColorReading.{alpha_at, arguments_of, channel_at, color_of, comma_at};
 
@@ -25,7 +25,7 @@ pub(crate) struct Rgba {
 
 /// The colour that the parts spell.
 pub(crate) fn color(parts: &[Part]) -> Option<Rgba>
-    ensures { result ≡ color_of (map seen parts.now) }
+    ensures { result ≡ color_of (map token_part parts.now) }
 {
     match parts {
         [Part::Ident(word)] => color_named(word),
@@ -36,7 +36,7 @@ pub(crate) fn color(parts: &[Part]) -> Option<Rgba>
 }
 
 fn function_color(name: &[u8], parts: &[Part]) -> Option<Rgba>
-    ensures { result ≡ (if is_color_function name.now then arguments_of (map seen parts.now) else None) }
+    ensures { result ≡ (if is_color_function name.now then arguments_of (map token_part parts.now) else None) }
 {
     if is_keyword(name, b"rgb") || is_keyword(name, b"rgba") {
         arguments(parts)
@@ -47,7 +47,7 @@ fn function_color(name: &[u8], parts: &[Part]) -> Option<Rgba>
 
 #[tactic(auto, unfolding(crate::specs::ColorReading::arguments_of))]
 fn arguments(parts: &[Part]) -> Option<Rgba>
-    ensures { result ≡ arguments_of (map seen parts.now) }
+    ensures { result ≡ arguments_of (map token_part parts.now) }
 {
     let (r, rest) = channel_at(parts)?;
     let (g, rest) = channel_at(comma_at(rest)?)?;
@@ -57,7 +57,7 @@ fn arguments(parts: &[Part]) -> Option<Rgba>
 }
 
 fn channel_at<'a, 'b>(parts: &'b [Part<'a>]) -> Option<(u8, &'b [Part<'a>])>
-    ensures { option_map (λ c. (c.0, map seen c.1.now)) result ≡ channel_at (map seen parts.now) }
+    ensures { option_map (λ c. (c.0, map token_part c.1.now)) result ≡ channel_at (map token_part parts.now) }
 {
     match parts {
         [Part::Number(text), rest @ ..] => Some((channel(text)?, rest)),
@@ -66,7 +66,7 @@ fn channel_at<'a, 'b>(parts: &'b [Part<'a>]) -> Option<(u8, &'b [Part<'a>])>
 }
 
 fn comma_at<'a, 'b>(parts: &'b [Part<'a>]) -> Option<&'b [Part<'a>]>
-    ensures { option_map (λ rest. map seen rest.now) result ≡ comma_at (map seen parts.now) }
+    ensures { option_map (λ rest. map token_part rest.now) result ≡ comma_at (map token_part parts.now) }
 {
     match parts {
         [Part::Comma, rest @ ..] => Some(rest),
@@ -75,7 +75,7 @@ fn comma_at<'a, 'b>(parts: &'b [Part<'a>]) -> Option<&'b [Part<'a>]>
 }
 
 fn alpha_at(parts: &[Part]) -> Option<Fix>
-    ensures { result ≡ alpha_at (map seen parts.now) }
+    ensures { result ≡ alpha_at (map token_part parts.now) }
 {
     match parts {
         [Part::Close] => Some(OPAQUE),
