@@ -18,7 +18,8 @@ use Rattle.value_types.specs.declared.easing.Jump.TheVariants.{Start, End, Both,
 use Rattle.list_text.specs.Numbers.{clamp, clamped_nearest, nearest}
 use Rattle.list_text.specs.Easings.{IsAbscissa, IsEasingAnswer, IsEasingSpelling, IsStepCount, curve, easing_words, jump_words, steps, steps_and_jump, word}
 use Rattle.list_text.specs.ItemReading.{easing_read, judgement_of}
-use Rattle.list_text.specs.Reading.{◌>>=◌, Numbers, abscissa, comma_at, curve_of, easing_of, easing_within, function_of, is_close, jump_of, natural, point_at, step_count, steps_of}
+use Rattle.token_parts.specs.Steps.{◌>>=◌, after_comma}
+use Rattle.list_text.specs.Reading.{Numbers, abscissa, curve_of, easing_of, easing_within, function_of, is_close, jump_of, natural, point_at, step_count, steps_of}
 use Rattle.token_parts.proofs.KeywordLemmas.{AllRows, of_row, only_one}
 use Rattle.list_text.proofs.OptionLemmas.{bound, passed}
 use Rattle.list_text.proofs.ViewLemmas.{Reads, as_it_is, at_limits, clamped_was, natural_found, natural_was, plain, same_test, sizes}
@@ -130,7 +131,7 @@ unfolding point_at
 point_was (Number a ∷ Comma ∷ Number b ∷ rest) p h = point_rest a b rest p h
 point_was _ p h = absurd (cc)
 
-comma_was : (parts rest : List TokenPart) → comma_at parts ≡ Some rest → parts ≡ Comma ∷ rest
+comma_was : (parts rest : List TokenPart) → after_comma parts ≡ Some rest → parts ≡ Comma ∷ rest
 comma_was (Comma ∷ ps) rest h = let e : ps ≡ rest = cc in ap (λ l. Comma ∷ l) e
 comma_was _ rest h = absurd (cc)
 
@@ -142,7 +143,7 @@ curve_was : (f : List ℕ) (parts : List TokenPart) (e : Easing) → is_keyword 
 unfolding curve_of
 curve_was f parts e is h =
     let one = bound (point_at clamped_nearest parts) _ e h in
-    let comma = bound (comma_at one.0.2) _ e one.2 in
+    let comma = bound (after_comma one.0.2) _ e one.2 in
     let two = bound (point_at clamped_nearest comma.0) _ e comma.2 in
     let end = passed (is_close two.0.2) _ e two.2 in
     let p = point_was parts one.0 one.1 in

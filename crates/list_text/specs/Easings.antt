@@ -1,4 +1,4 @@
--- The spellings of easing functions (CSS Easing 1, section 2).
+-- The spellings of easing functions (CSS Easing 1, "Easing functions").
 use Rattle.std.specs.Prelude.{◌≡◌, ℕ, ◌≤◌, ℤ, pos, ◌≤ℤ◌, List, [], ◌∷◌, codes, IsTrue, Some, Result, Ok, Err, ⊤}
 use Rattle.fix_num.specs.Rounded.{StandsNear}
 use Rattle.token_parts.specs.Keywords.{is_keyword, look_up}

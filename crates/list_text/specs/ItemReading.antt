@@ -17,7 +17,8 @@ use Rattle.value_types.specs.declared.timing.Count.{Count}
 use Rattle.value_types.specs.declared.timing.Count.TheVariants as count
 use Rattle.list_text.specs.Lists.{direction_words, fill_words, state_words, name_of_word, property_of_word}
 use Rattle.list_text.specs.Numbers.{clamped_nearest, not_negative}
-use Rattle.list_text.specs.Reading.{◌>>=◌, Numbers, natural, word_of, easing_of, easing_within}
+use Rattle.token_parts.specs.Steps.{◌>>=◌}
+use Rattle.list_text.specs.Reading.{Numbers, natural, word_of, easing_of, easing_within}
 
 -- the item that a word is
 abbrev pub word_item : {T : Type 0} → (List ℕ → Option T) → List TokenPart → Option T

@@ -3,6 +3,7 @@ use Rattle.std.specs.Prelude.{ℕ, ◌==◌, ℤ, pos, Bool, true, false, ◌&&�
 use Rattle.std.specs.List.{list_all}
 use Rattle.fix_num.specs.Integer.{has_no_point}
 use Rattle.token_parts.specs.Keywords.{is_keyword, look_up}
+use Rattle.token_parts.specs.Steps.{◌>>=◌, after_comma}
 use Rattle.token_parts.specs.Parts.{TokenPart, Ident, Function, Number, Comma, Close}
 use Rattle.value_types.specs.Timing.{fewest_steps}
 use Rattle.value_types.specs.declared.easing.Easing.{Easing}
@@ -13,12 +14,6 @@ use Rattle.value_types.specs.declared.limits.TheConstants.{MAX_ORDINATE, MAX_STE
 use Rattle.list_text.specs.Numbers.{not_negative}
 use Rattle.list_text.specs.Easings.{easing_words, jump_words}
 
-infixl 10 ◌>>=◌
--- the next step of what is there, and nothing where nothing is
-abbrev pub ◌>>=◌ : {A B : Type 0} → Option A → (A → Option B) → Option B
-None >>= f = None
-(Some x) >>= f = f x
-
 -- a way of reading numbers: of so many places, with a limit, from a text
 abbrev pub Numbers : Type 0
 Numbers = ℕ → ℕ → List ℕ → Option ℤ
@@ -27,11 +22,6 @@ Numbers = ℕ → ℕ → List ℕ → Option ℤ
 abbrev pub number_at : List TokenPart → Option (List ℕ × List TokenPart)
 number_at (Number n ∷ ps) = Some (n, ps)
 number_at _ = None
-
--- what stands after a comma
-abbrev pub comma_at : List TokenPart → Option (List TokenPart)
-comma_at (Comma ∷ ps) = Some ps
-comma_at _ = None
 
 -- the only word
 abbrev pub word_of : List TokenPart → Option (List ℕ)
@@ -80,7 +70,7 @@ abscissa num text = natural num 3 1000 text >>= (λ n. if nat_le n 1000 then Som
 unfoldable pub point_at : Numbers → List TokenPart → Option (ℤ × ℤ × List TokenPart)
 point_at num parts = do
   a ← number_at parts
-  rest ← comma_at a.1
+  rest ← after_comma a.1
   b ← number_at rest
   x ← abscissa num a.0
   y ← num 3 MAX_ORDINATE b.0
@@ -90,7 +80,7 @@ point_at num parts = do
 unfoldable pub curve_of : Numbers → List TokenPart → Option Easing
 curve_of num parts = do
   p ← point_at num parts
-  rest ← comma_at p.2
+  rest ← after_comma p.2
   q ← point_at num rest
   if is_close q.2 then Some (Cubic p.0 p.1 q.0 q.1) else None
 

@@ -7,13 +7,13 @@ ghost use Rattle.value_types.specs.Timing.{fewest_steps};
 ghost use Rattle.list_text.specs.Easings.{IsEasingAnswer, easing_words, jump_words};
 ghost use Rattle.list_text.specs.ItemReading.{Gives, easing_read};
 ghost use Rattle.list_text.specs.Numbers.{clamped_nearest};
-ghost use Rattle.list_text.specs.Reading.{abscissa, comma_at, curve_of, easing_of, easing_within, function_of, is_close, jump_of, last_word, number_at, point_at, step_count, steps_of};
+ghost use Rattle.list_text.specs.Reading.{abscissa, curve_of, easing_of, easing_within, function_of, is_close, jump_of, last_word, number_at, point_at, step_count, steps_of};
 
 use crate::number::{clamped, natural};
-use fix_num::has_no_point;
 use css_token::Token;
+use fix_num::has_no_point;
 use std::alloc::Global;
-use token_parts::{Part, ValueFault, is_keyword, look_up, parts};
+use token_parts::{Part, ValueFault, after_comma, is_keyword, look_up, parts};
 use value_types::limits::{MAX_ORDINATE, MAX_STEPS};
 use value_types::{Easing, Jump};
 
@@ -179,7 +179,7 @@ fn curve_of(parts: &[Part]) -> Option<Easing>
     ensures { result ≡ curve_of clamped_nearest (map token_part parts.now) }
 {
     let (x1, y1, rest) = point_at(parts)?;
-    let (x2, y2, rest) = point_at(comma_at(rest)?)?;
+    let (x2, y2, rest) = point_at(after_comma(rest)?)?;
     if !is_close(rest) {
         return None;
     }
@@ -192,7 +192,7 @@ fn point_at<'a, 'b>(parts: &'b [Part<'a>]) -> Option<(i32, i32, &'b [Part<'a>])>
     ensures { option_map (λ p. (p.0, p.1, map token_part p.2.now)) result ≡ point_at clamped_nearest (map token_part parts.now) }
 {
     let (x, rest) = number_at(parts)?;
-    let (y, rest) = number_at(comma_at(rest)?)?;
+    let (y, rest) = number_at(after_comma(rest)?)?;
     Some((abscissa(x)?, ordinate(y)?, rest))
 }
 
@@ -218,15 +218,6 @@ fn number_at<'a, 'b>(parts: &'b [Part<'a>]) -> Option<(&'a [u8], &'b [Part<'a>])
 {
     match parts {
         [Part::Number(number), rest @ ..] => Some((number, rest)),
-        _ => None,
-    }
-}
-
-fn comma_at<'a, 'b>(parts: &'b [Part<'a>]) -> Option<&'b [Part<'a>]>
-    ensures { option_map (λ rest. map token_part rest.now) result ≡ comma_at (map token_part parts.now) }
-{
-    match parts {
-        [Part::Comma, rest @ ..] => Some(rest),
         _ => None,
     }
 }

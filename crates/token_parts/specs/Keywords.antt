@@ -1,4 +1,4 @@
--- Keywords, and tables of them (CSS Values 4, section 2.4).
+-- Keywords, and tables of them (CSS Values 4, "Pre-defined Keywords").
 use Rattle.std.specs.Prelude.{ℕ, Bool, List, [], ◌∷◌, if◌then◌else◌, Option, None, Some}
 use Rattle.std.specs.Str.{str_eq_ignore_ascii_case}
 

@@ -1,4 +1,4 @@
--- What the solid tokens of a text say (CSS Syntax Level 3, section 4), without their places.
+-- What the solid tokens of a text say (CSS Syntax Level 3, "Tokenization"), without their places.
 use Rattle.std.specs.Prelude.{ℕ, ◌+◌, ◌-◌, List, slice_range, Option, None, Some, filter_map}
 use Rattle.css_token.specs.declared.token.Kind.{Kind}
 use Rattle.css_token.specs.declared.token.Kind.TheVariants as kind

@@ -1,4 +1,4 @@
-//! Keywords, whose ASCII case doesn't count (CSS Values 4, section 2.4).
+//! Keywords, whose ASCII case doesn't count (CSS Values 4, "Pre-defined Keywords").
 ghost use Rattle.std.specs.Prelude.{◌≡◌, map};
 ghost use Rattle.token_parts.specs.Keywords.{look_up, is_keyword};
 

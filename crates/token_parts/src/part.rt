@@ -1,6 +1,7 @@
 //! Parts: what tokens say.
 ghost use Rattle.std.specs.Prelude.{◌≡◌, ◌++◌, All, List, map, IfOk, OnOk, option_map, option_to_list};
 ghost use Rattle.css_token.specs.TokenLists.{LiesWithin};
+ghost use Rattle.token_parts.specs.Steps.{after_comma};
 ghost use Rattle.token_parts.specs.Parts.{token_part_at, token_parts_of, token_part};
 
 use css_token::{Kind, Token};
@@ -13,7 +14,7 @@ pub enum Part<'a> {
     Ident(&'a [u8]),
     /// A function's name, without its `(`.
     Function(&'a [u8]),
-    /// The name behind a `#`.
+    /// The name after a `#`.
     Hash(&'a [u8]),
     /// A number.
     Number(&'a [u8]),
@@ -75,5 +76,15 @@ fn part_of<'a>(text: &'a [u8], token: &Token) -> Option<Part<'a>>
         Kind::Comma => Some(Part::Comma),
         Kind::RoundClose => Some(Part::Close),
         _ => Some(Part::Other),
+    }
+}
+
+/// The parts after a comma, where they begin with one.
+pub fn after_comma<'a, 'b>(parts: &'b [Part<'a>]) -> Option<&'b [Part<'a>]>
+    ensures { option_map (λ rest. map token_part rest.now) result ≡ after_comma (map token_part parts.now) }
+{
+    match parts {
+        [Part::Comma, rest @ ..] => Some(rest),
+        _ => None,
     }
 }

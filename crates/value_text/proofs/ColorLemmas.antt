@@ -7,7 +7,8 @@ use Rattle.value_types.specs.declared.range.ValueRange.TheVariants.{ZeroToOne}
 use Rattle.value_text.specs.declared.color.Rgba.{Rgba}
 use Rattle.value_text.specs.Colors.{IsAlphaText, IsColor, is_color_function}
 use Rattle.value_text.specs.Colors as colors
-use Rattle.value_text.specs.ColorReading.{◌>>=◌, alpha_at, arguments_of, channel_at, color_of, comma_at, option_of}
+use Rattle.token_parts.specs.Steps.{◌>>=◌, after_comma}
+use Rattle.value_text.specs.ColorReading.{alpha_at, arguments_of, channel_at, color_of, option_of}
 use Rattle.value_text.specs.NumberReading.{channel_of, number_in}
 use Rattle.value_text.specs.Numbers.{IsChannel}
 use Rattle.value_text.proofs.IntegerLemmas.{channel_given, channel_was}
@@ -42,7 +43,7 @@ channel_parts (Number text ∷ ps) x h =
     (text, subst (λ (y : ℕ × List TokenPart). IsChannel text y.0) same (channel_was text step.0 step.1), ap (λ (y : ℕ × List TokenPart). Number text ∷ y.1) same)
 channel_parts parts x h = absurd (cc)
 
-comma_parts : (parts rest : List TokenPart) → comma_at parts ≡ Some rest → parts ≡ Comma ∷ rest
+comma_parts : (parts rest : List TokenPart) → after_comma parts ≡ Some rest → parts ≡ Comma ∷ rest
 comma_parts (Comma ∷ ps) rest h = let same : ps ≡ rest = cc in ap (λ l. Comma ∷ l) same
 comma_parts parts rest h = absurd (cc)
 
@@ -72,9 +73,9 @@ arguments_was : (name : List ℕ) (parts : List TokenPart) (c : Rgba) → is_col
 unfolding arguments_of
 arguments_was name parts c f h =
     let r = bound (channel_at parts) _ c h in
-    let first = bound (comma_at r.0.1) _ c r.2 in
+    let first = bound (after_comma r.0.1) _ c r.2 in
     let g = bound (channel_at first.0) _ c first.2 in
-    let second = bound (comma_at g.0.1) _ c g.2 in
+    let second = bound (after_comma g.0.1) _ c g.2 in
     let b = bound (channel_at second.0) _ c second.2 in
     let a = bound (alpha_at b.0.1) _ c b.2 in
     let red = channel_parts parts r.0 r.1 in

@@ -85,15 +85,17 @@ part_in part = length_in All part
 
 -- ---- values
 
--- the number, the word or the part that the parts are alone
+-- the number that the parts are alone
 abbrev pub lone_number : List TokenPart → Option (List ℕ)
 lone_number (Number text ∷ []) = Some text
 lone_number _ = None
 
+-- the word that they are alone
 abbrev pub lone_word : List TokenPart → Option (List ℕ)
 lone_word (Ident word ∷ []) = Some word
 lone_word _ = None
 
+-- the part that they are alone
 abbrev pub lone : List TokenPart → Option TokenPart
 lone (part ∷ []) = Some part
 lone _ = None

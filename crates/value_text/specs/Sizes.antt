@@ -1,4 +1,4 @@
--- Lengths and percents as they are written (CSS Values 3, sections 4.3 and 5).
+-- Lengths and percents as they are written (CSS Values 3, "Percentages: the <percentage> type", "Distance Units: the <length> type").
 use Rattle.std.specs.Prelude.{◌≡◌, ℕ, pos, Bool, List, [], ◌∷◌, codes, Some}
 use Rattle.token_parts.specs.Keywords.{look_up}
 use Rattle.token_parts.specs.Parts.{TokenPart, Number, Percent, Dimension}
