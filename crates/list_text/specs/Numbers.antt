@@ -1,4 +1,4 @@
--- Numbers of values (CSS Values 4, section 5), as large as they may be.
+-- Numbers of values (CSS Values 4, "Numeric Data Types"), as large as they may be.
 use Rattle.std.specs.Prelude.{ℕ, ◌+◌, ◌==◌, ℤ, pos, negsuc, unsigned_abs, Bool, true, false, not, nat_le, if◌then◌else◌, List, IsTrue, Option, None, Some, option_map}
 use Rattle.std.specs.List.{list_all}
 use Rattle.fix_num.specs.Decimal.{decimal_of, is_minus, signed_number}
@@ -15,8 +15,8 @@ abbrev pub clamp : ℕ → ℤ → ℤ
 clamp limit v = (if nat_le (unsigned_abs v) limit then v else signed_number (is_minus v) (limit + 1))
 
 -- the nearest number, clamped
-unfoldable pub clamped : ℕ → ℕ → List ℕ → Option ℤ
-clamped places limit text = option_map (clamp limit) (nearest places limit text)
+unfoldable pub clamped_nearest : ℕ → ℕ → List ℕ → Option ℤ
+clamped_nearest places limit text = option_map (clamp limit) (nearest places limit text)
 
 -- the number without its sign, unless it is below 0
 abbrev pub not_negative : ℤ → Option ℕ

@@ -11,4 +11,4 @@ both a b p q (suc zero) d l = q
 both a b p q (suc (suc k)) d l = absurd (omega arith)
 
 pub two_durations : (a b : Micros) → IsDuration a → IsDuration b → IsListOf IsDuration (a ∷ b ∷ [])
-two_durations a b p q = record { some = omega arith; each = both a b p q }
+two_durations a b p q = record { some = omega arith; few = omega arith; each = both a b p q }

@@ -1,11 +1,13 @@
--- Computed values as text (CSSOM, "Serializing CSS Values"; CSS Color 4, section 15; CSS Values 3, section 8.1.4).
+-- Computed values as text (CSSOM, "Serializing CSS Values"; CSS Color 4, "Serializing <color> Values"; CSS Values 4,
+-- "Serialization" of mathematical functions).
 use Rattle.std.specs.Prelude.{ℕ, ℤ, pos, negsuc, unsigned_abs, ◌&&◌, if◌then◌else◌, List, [], ◌++◌, codes}
 use Rattle.std.specs.Ordering.{int_eq}
 use Rattle.fix_num.specs.Print.{decimal_text}
 use Rattle.fix_num.specs.declared.units.Fix.{Fix}
+use Rattle.fix_num.specs.declared.units.TheConstants.Fix.{ONE}
 use Rattle.value_types.specs.declared.value.Value.{Value}
 use Rattle.value_types.specs.declared.value.Value.TheVariants as value
-use Rattle.value_print.specs.Keywords.{keyword_of_display, keyword_of_visibility}
+use Rattle.value_types.specs.Keywords.{keyword_of_display, keyword_of_visibility}
 
 -- a number of millionths and its unit
 abbrev pub number_text : ℤ → List ℕ → List ℕ
@@ -44,18 +46,18 @@ channels_text r g b = whole_text (pos r) ++ codes ", " ++ whole_text (pos g) ++ 
 -- a colour, with its alpha where that isn't 1
 unfoldable pub color_text : ℕ → ℕ → ℕ → Fix → List ℕ
 color_text r g b a =
-    (if int_eq a.0 (pos 1000000) then codes "rgb(" ++ channels_text r g b ++ codes ")"
+    (if int_eq a.0 ONE.0 then codes "rgb(" ++ channels_text r g b ++ codes ")"
     else codes "rgba(" ++ channels_text r g b ++ codes ", " ++ number_text a.0 (codes ")"))
 
 -- the printed form of a computed value, of whatever property
-abbrev pub shown : Value → List ℕ
-shown (value.Number n) = number_text n.0 []
-shown (value.Length px pct) = size_text px pct
-shown value.Auto = codes "auto"
-shown (value.Int i) = whole_text i
-shown (value.Color r g b a) = color_text r g b a
-shown (value.Angle n) = number_text n.0 (codes "deg")
-shown (value.Pair x_px x_pct y_px y_pct) = pair_text x_px x_pct y_px y_pct
-shown value.Absent = codes "none"
-shown (value.Visible v) = keyword_of_visibility v
-shown (value.Display d) = keyword_of_display d
+abbrev pub serialized_value : Value → List ℕ
+serialized_value (value.Number n) = number_text n.0 []
+serialized_value (value.Length px pct) = size_text px pct
+serialized_value value.Auto = codes "auto"
+serialized_value (value.Int i) = whole_text i
+serialized_value (value.Color r g b a) = color_text r g b a
+serialized_value (value.Angle n) = number_text n.0 (codes "deg")
+serialized_value (value.Pair x_px x_pct y_px y_pct) = pair_text x_px x_pct y_px y_pct
+serialized_value value.Absent = codes "none"
+serialized_value (value.Visible v) = keyword_of_visibility v
+serialized_value (value.Display d) = keyword_of_display d

@@ -6,6 +6,7 @@ use Rattle.fix_num.specs.declared.decimal.NumFault.{NumFault}
 use Rattle.fix_num.specs.declared.decimal.NumFault.TheVariants.{Syntax, TooFine, TooLarge}
 use Rattle.fix_num.specs.Integer.{has_no_point}
 use Rattle.fix_num.proofs.IntegerLemmas.{one_stands}
+use Rattle.fix_num.specs.declared.limits.TheConstants.{MAX_INTEGER}
 use Rattle.fix_num.proofs.ReadingLemmas.{number_from, number_told, too_large_told, within_number}
 use Rattle.token_parts.specs.declared.fault.ValueFault.TheVariants.{Unsupported}
 use Rattle.value_text.specs.NumberReading.{channel_of, integer_from, integer_in, natural_from}
@@ -20,11 +21,11 @@ within_is_no_fault : (b : Bool) (v : ℤ) (f : NumFault) → (TooLarge ≡ f →
 within_is_no_fault true v f h e = cc
 within_is_no_fault false v f h e = let same : TooLarge ≡ f = cc in h same
 
-no_other_fault : (text : List ℕ) (v : ℤ) (f : NumFault) → (TooLarge ≡ f → ⊥) → Stands 0 text v → reading_of 0 2147483647 text ≡ Err f → ⊥
+no_other_fault : (text : List ℕ) (v : ℤ) (f : NumFault) → (TooLarge ≡ f → ⊥) → Stands 0 text v → reading_of 0 MAX_INTEGER text ≡ Err f → ⊥
 no_other_fault text v f h stands e =
-    within_is_no_fault (nat_le (unsigned_abs v) 2147483647) v f h (sym (within_number 0 2147483647 text v stands) ∙ e)
+    within_is_no_fault (nat_le (unsigned_abs v) MAX_INTEGER) v f h (sym (within_number 0 MAX_INTEGER text v stands) ∙ e)
 
-integer_at : (text : List ℕ) (res : Result ℤ NumFault) → has_no_point text ≡ true → reading_of 0 2147483647 text ≡ res
+integer_at : (text : List ℕ) (res : Result ℤ NumFault) → has_no_point text ≡ true → reading_of 0 MAX_INTEGER text ≡ res
     → IsReading (λ held i. IsHeldInteger held text i) (integer_from res)
 integer_at text (Ok v) digits e = record {
   given = λ i h. ap Ok (one_stands 0 text v i told.0 h.value.value);
@@ -36,8 +37,8 @@ integer_at text (Ok v) digits e = record {
   no_items = λ d. cc;
   no_memory = λ d. cc;
 } where
-  told : Stands 0 text v × (unsigned_abs v ≤ 2147483647)
-  told = number_told 0 2147483647 text v e
+  told : Stands 0 text v × (unsigned_abs v ≤ MAX_INTEGER)
+  told = number_told 0 MAX_INTEGER text v e
 integer_at text (Err TooLarge) digits e = record {
   given = λ i h. let small = h.limit refl in let same = one_stands 0 text told.0 i told.1 h.value.value in let size = ap unsigned_abs same in let far = told.2 in absurd (omega arith);
   found = λ i d. absurd (cc);
@@ -48,14 +49,14 @@ integer_at text (Err TooLarge) digits e = record {
   no_items = λ d. cc;
   no_memory = λ d. cc;
 } where
-  told : (v : ℤ) × Stands 0 text v × (2147483647 < unsigned_abs v)
-  told = too_large_told 0 2147483647 text e
+  told : (v : ℤ) × Stands 0 text v × (MAX_INTEGER < unsigned_abs v)
+  told = too_large_told 0 MAX_INTEGER text e
 integer_at text (Err Syntax) digits e = nothing _ (λ held i h. no_other_fault text i Syntax (λ d. cc) h.value.value e)
 integer_at text (Err TooFine) digits e = nothing _ (λ held i h. no_other_fault text i TooFine (λ d. cc) h.value.value e)
 
 integer_chosen : (text : List ℕ) (b : Bool) → has_no_point text ≡ b
-    → IsReading (λ held i. IsHeldInteger held text i) (if b then integer_from (reading_of 0 2147483647 text) else Err Unsupported)
-integer_chosen text true e = integer_at text (reading_of 0 2147483647 text) e refl
+    → IsReading (λ held i. IsHeldInteger held text i) (if b then integer_from (reading_of 0 MAX_INTEGER text) else Err Unsupported)
+integer_chosen text true e = integer_at text (reading_of 0 MAX_INTEGER text) e refl
 integer_chosen text false e = nothing _ (λ held i h. let digits : has_no_point text ≡ true = h.value.digits in cc)
 
 pub integer_is : (text : List ℕ) → IsReading (λ held i. IsHeldInteger held text i) (integer_in text)

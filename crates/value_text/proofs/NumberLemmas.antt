@@ -8,17 +8,18 @@ use Rattle.fix_num.specs.Decimal.{is_minus}
 use Rattle.fix_num.specs.Rounded.{StandsNear, rounded_reading_of}
 use Rattle.fix_num.specs.declared.decimal.NumFault.{NumFault}
 use Rattle.fix_num.specs.declared.decimal.NumFault.TheVariants.{Syntax, TooFine, TooLarge}
+use Rattle.fix_num.specs.declared.limits.TheConstants.{MAX_NUMBER}
 use Rattle.fix_num.specs.declared.units.Fix.{Fix}
 use Rattle.fix_num.proofs.IntegerLemmas.{one_near}
 use Rattle.fix_num.proofs.RoundedReadingLemmas.{far_told, near_from, near_told, never_fine, none_told}
 use Rattle.fix_num.proofs.SignLemmas.{sign_of}
 use Rattle.token_parts.specs.declared.fault.ValueFault.TheVariants.{Unsupported, Bound}
-use Rattle.value_types.specs.Validity.{IsInRange}
-use Rattle.value_types.specs.declared.table.ValueRange.{ValueRange}
-use Rattle.value_types.specs.declared.table.ValueRange.TheVariants as range
-use Rattle.value_text.specs.NumberReading.{begins_minus, far_in_range, is_in_range, integer_from, integer_in, number_in}
+use Rattle.value_types.specs.Ranges.{IsInRange, is_in_range}
+use Rattle.value_types.specs.declared.range.ValueRange.{ValueRange}
+use Rattle.value_types.specs.declared.range.ValueRange.TheVariants as range
+use Rattle.value_text.specs.NumberReading.{begins_minus, far_in_range, integer_from, integer_in, number_in}
 use Rattle.value_text.specs.NumberReading as reading
-use Rattle.value_text.specs.Numbers.{IsNumber}
+use Rattle.value_text.specs.Numbers.{IsNumberText}
 use Rattle.value_text.proofs.Readings.{IsReading, nothing}
 
 -- ---- the sign of a number past the limit
@@ -53,7 +54,7 @@ in_range_told range.ZeroToOne (pos n) h = let small : n ≤ 1000000 = grind (ari
 in_range_told range.ZeroToOne (negsuc n) h = absurd (cc)
 in_range_told range.Nothing v h = tt
 
-far_test : (r : ValueRange) (text : List ℕ) (n : Fix) → is_minus n.0 ≡ begins_minus text → 10 ^ 12 < unsigned_abs n.0 → IsInRange r n → far_in_range r text ≡ true
+far_test : (r : ValueRange) (text : List ℕ) (n : Fix) → is_minus n.0 ≡ begins_minus text → MAX_NUMBER < unsigned_abs n.0 → IsInRange r n → far_in_range r text ≡ true
 far_test range.All text n sign far h = refl
 far_test range.NotNegative text n sign far h = ap not (sym sign) ∙ at n.0 h where
   at : (v : ℤ) → pos 0 ≤ℤ v → not (is_minus v) ≡ true
@@ -76,17 +77,17 @@ far_in_range_told range.Nothing text v sign h = tt
 fix_of : ℤ → Fix
 fix_of v = record { 0 = v }
 
-one_number : (r : ValueRange) (text : List ℕ) (a b : Fix) → IsNumber false r text a → IsNumber false r text b → a ≡ b
+one_number : (r : ValueRange) (text : List ℕ) (a b : Fix) → IsNumberText false r text a → IsNumberText false r text b → a ≡ b
 unfolding fix_of
 one_number r text a b h k = ap fix_of (one_near 6 text a.0 b.0 h.near k.near)
 
-number_given : (r : ValueRange) (text : List ℕ) (v : ℤ) → StandsNear 6 text v → unsigned_abs v ≤ 10 ^ 12 → (b : Bool) → is_in_range r v ≡ b
-    → IsReading (λ held n. IsNumber held r text n) (if b then Ok (record { 0 = v }) else Err Unsupported)
+number_given : (r : ValueRange) (text : List ℕ) (v : ℤ) → StandsNear 6 text v → unsigned_abs v ≤ MAX_NUMBER → (b : Bool) → is_in_range r v ≡ b
+    → IsReading (λ held n. IsNumberText held r text n) (if b then Ok (record { 0 = v }) else Err Unsupported)
 unfolding fix_of
 number_given r text v near small true test = record {
   given = λ a h. ap (λ z. Ok (fix_of z)) (one_near 6 text v a.0 near h.near);
   found = λ a e. let same : fix_of v ≡ a = cc in
-      subst (λ n. IsNumber true r text n) same (record { near = near; in_range = in_range_told r v test; limit = λ held. small });
+      subst (λ n. IsNumberText true r text n) same (record { near = near; in_range = in_range_told r v test; limit = λ held. small });
   bound = λ e. absurd (cc);
   some = λ a h e. cc;
   wider = λ a h. record { near = h.near; in_range = h.in_range; limit = λ held. absurd (cc) };
@@ -99,8 +100,8 @@ number_given r text v near small false test = nothing _ (λ held a h.
     let same = one_near 6 text v a.0 near h.near in
     cc)
 
-number_far : (r : ValueRange) (text : List ℕ) (v : ℤ) → StandsNear 6 text v → 10 ^ 12 < unsigned_abs v → (b : Bool) → far_in_range r text ≡ b
-    → IsReading (λ held n. IsNumber held r text n) (if b then Err Bound else Err Unsupported)
+number_far : (r : ValueRange) (text : List ℕ) (v : ℤ) → StandsNear 6 text v → MAX_NUMBER < unsigned_abs v → (b : Bool) → far_in_range r text ≡ b
+    → IsReading (λ held n. IsNumberText held r text n) (if b then Err Bound else Err Unsupported)
 number_far r text v near far true test = record {
   given = λ a h. let small = h.limit refl in let same = one_near 6 text v a.0 near h.near in let size = ap unsigned_abs same in absurd (omega arith);
   found = λ a e. absurd (cc);
@@ -117,13 +118,13 @@ number_far r text v near far false test = nothing _ (λ held a h.
     let is = far_test r text a (text_sign text a.0 h.near (omega arith)) (omega arith) h.in_range in
     cc)
 
-number_at : (r : ValueRange) (text : List ℕ) (res : Result ℤ NumFault) → rounded_reading_of 6 (10 ^ 12) text ≡ res
-    → IsReading (λ held n. IsNumber held r text n) (reading.number_from r text res)
-number_at r text (Ok v) e = let told = near_told 6 (10 ^ 12) text v e in number_given r text v told.0 told.1 (is_in_range r v) refl
-number_at r text (Err TooLarge) e = let told = far_told 6 (10 ^ 12) text e in number_far r text told.0 told.1 told.2 (far_in_range r text) refl
-number_at r text (Err Syntax) e = nothing _ (λ held a h. none_told 6 (10 ^ 12) text e h.near.0 h.near.1)
-number_at r text (Err TooFine) e = absurd (never_fine 6 (10 ^ 12) text e)
+number_at : (r : ValueRange) (text : List ℕ) (res : Result ℤ NumFault) → rounded_reading_of 6 MAX_NUMBER text ≡ res
+    → IsReading (λ held n. IsNumberText held r text n) (reading.number_from r text res)
+number_at r text (Ok v) e = let told = near_told 6 MAX_NUMBER text v e in number_given r text v told.0 told.1 (is_in_range r v) refl
+number_at r text (Err TooLarge) e = let told = far_told 6 MAX_NUMBER text e in number_far r text told.0 told.1 told.2 (far_in_range r text) refl
+number_at r text (Err Syntax) e = nothing _ (λ held a h. none_told 6 MAX_NUMBER text e h.near.0 h.near.1)
+number_at r text (Err TooFine) e = absurd (never_fine 6 MAX_NUMBER text e)
 
-pub number_is : (r : ValueRange) (text : List ℕ) → IsReading (λ held n. IsNumber held r text n) (number_in r text)
+pub number_is : (r : ValueRange) (text : List ℕ) → IsReading (λ held n. IsNumberText held r text n) (number_in r text)
 unfolding number_in
-number_is r text = number_at r text (rounded_reading_of 6 (10 ^ 12) text) refl
+number_is r text = number_at r text (rounded_reading_of 6 MAX_NUMBER text) refl

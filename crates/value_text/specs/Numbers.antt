@@ -1,13 +1,13 @@
--- Numbers of values (CSS Values 4, section 5), as large as they may be.
+-- Numbers of values (CSS Values 4, "Numeric Data Types"), as large as they may be.
 use Rattle.std.specs.Prelude.{ℕ, ◌≤◌, ℤ, pos, Bool, List, IsTrue}
 use Rattle.fix_num.specs.Integer.{IsIntegerText}
 use Rattle.fix_num.specs.Rounded.{StandsNear}
 use Rattle.fix_num.specs.declared.units.Fix.{Fix}
-use Rattle.value_types.specs.declared.table.ValueRange.{ValueRange}
-use Rattle.value_types.specs.Validity.{IsInRange, IsInteger, IsWithinLimit}
+use Rattle.value_types.specs.declared.range.ValueRange.{ValueRange}
+use Rattle.value_types.specs.Ranges.{IsInRange, IsInteger, IsWithinLimit}
 
 -- the text spells the number nearest to n millionths, which is in the range, and within the limit where numbers are held to it
-pub record IsNumber (held : Bool) (range : ValueRange) (text : List ℕ) (n : Fix) : Type 0 where
+pub record IsNumberText (held : Bool) (range : ValueRange) (text : List ℕ) (n : Fix) : Type 0 where
   pub near : StandsNear 6 text n.0
   pub in_range : IsInRange range n
   pub limit : IsTrue held → IsWithinLimit n

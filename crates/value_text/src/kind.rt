@@ -1,19 +1,20 @@
 //! Values of one kind.
 ghost use Rattle.std.specs.Prelude.{if◌then◌else◌, ◌≡◌, ◌∷◌, map, option_map, pos, codes};
 ghost use Rattle.fix_num.specs.Rounding.{rounded_quotient};
-ghost use Rattle.token_parts.specs.Keywords.{look_up, names};
-ghost use Rattle.token_parts.specs.Parts.{seen};
+ghost use Rattle.token_parts.specs.Keywords.{is_keyword};
+ghost use Rattle.token_parts.specs.Parts.{token_part};
+ghost use Rattle.value_types.specs.Keywords.{display_named, visibility_named};
 ghost use Rattle.value_types.specs.Validity.{declared_range_of};
 ghost use Rattle.value_text.specs.ColorReading.{color_of};
 ghost use Rattle.value_text.specs.NumberReading.{integer_in, number_in};
-ghost use Rattle.value_text.specs.Reading.{angle_in, both, keyword_in, kind_in, length_in, lone, lone_number, lone_word, mapped, pair_in, percent_in, read_of, supported};
-ghost use Rattle.value_text.specs.Spelling.{colored, declared_percent, display_words, visibility_words};
+ghost use Rattle.value_text.specs.Reading.{angle_in, both, keyword_in, kind_in, length_in, lone, lone_number, lone_word, reading_map, pair_in, percent_in, read_of, or_unsupported};
+ghost use Rattle.value_text.specs.Spelling.{declared_color, declared_percent};
 
 use crate::color::color;
 use crate::number::{integer, number};
 use crate::size::{length, length_or_percent, percent, zero_pixels};
 use fix_num::{Fix, rnd};
-use token_parts::{Part, ValueFault, is_keyword, look_up};
+use token_parts::{Part, ValueFault, is_keyword};
 use value_types::{
     Declared, Display, PropertyId, Size, ValueKind, ValueRange, Visibility, range_of,
 };
@@ -24,7 +25,7 @@ pub(crate) fn of_kind(
     kind: ValueKind,
     parts: &[Part],
 ) -> Result<Declared, ValueFault>
-    ensures { result ≡ kind_in p kind (map seen parts.now) }
+    ensures { result ≡ kind_in p kind (map token_part parts.now) }
 {
     let range = declared_range(p);
     match kind {
@@ -55,7 +56,7 @@ fn declared_range(p: PropertyId) -> ValueRange
 }
 
 fn lone_number_value(range: ValueRange, parts: &[Part]) -> Result<Declared, ValueFault>
-    ensures { result ≡ read_of (λ text. mapped Declared.Number (number_in range text)) (lone_number (map seen parts.now)) }
+    ensures { result ≡ read_of (λ text. reading_map Declared.Number (number_in range text)) (lone_number (map token_part parts.now)) }
 {
     match parts {
         [Part::Number(text)] => match number(range, text) {
@@ -67,7 +68,7 @@ fn lone_number_value(range: ValueRange, parts: &[Part]) -> Result<Declared, Valu
 }
 
 fn length_value(range: ValueRange, parts: &[Part]) -> Result<Declared, ValueFault>
-    ensures { result ≡ read_of (λ part. mapped Declared.Length (length_in range part)) (lone (map seen parts.now)) }
+    ensures { result ≡ read_of (λ part. reading_map Declared.Length (length_in range part)) (lone (map token_part parts.now)) }
 {
     match parts {
         [part] => match length(range, part) {
@@ -79,7 +80,7 @@ fn length_value(range: ValueRange, parts: &[Part]) -> Result<Declared, ValueFaul
 }
 
 fn percent_value(p: PropertyId, range: ValueRange, parts: &[Part]) -> Result<Declared, ValueFault>
-    ensures { result ≡ read_of (λ part. mapped (declared_percent p) (percent_in range part)) (lone (map seen parts.now)) }
+    ensures { result ≡ read_of (λ part. reading_map (declared_percent p) (percent_in range part)) (lone (map token_part parts.now)) }
 {
     match parts {
         [part] => match percent(range, part) {
@@ -107,7 +108,7 @@ fn hundredth(n: Fix) -> Fix
 }
 
 fn keyword(parts: &[Part], word: &[u8], value: Declared) -> Result<Declared, ValueFault>
-    ensures { result ≡ read_of (keyword_in word.now value) (lone_word (map seen parts.now)) }
+    ensures { result ≡ read_of (keyword_in word.now value) (lone_word (map token_part parts.now)) }
 {
     match parts {
         [Part::Ident(name)] => {
@@ -122,7 +123,7 @@ fn keyword(parts: &[Part], word: &[u8], value: Declared) -> Result<Declared, Val
 }
 
 fn integer_value(parts: &[Part]) -> Result<Declared, ValueFault>
-    ensures { result ≡ read_of (λ text. mapped Declared.Int (integer_in text)) (lone_number (map seen parts.now)) }
+    ensures { result ≡ read_of (λ text. reading_map Declared.Int (integer_in text)) (lone_number (map token_part parts.now)) }
 {
     match parts {
         [Part::Number(text)] => match integer(text) {
@@ -134,7 +135,7 @@ fn integer_value(parts: &[Part]) -> Result<Declared, ValueFault>
 }
 
 fn color_value(parts: &[Part]) -> Result<Declared, ValueFault>
-    ensures { result ≡ supported (option_map colored (color_of (map seen parts.now))) }
+    ensures { result ≡ or_unsupported (option_map declared_color (color_of (map token_part parts.now))) }
 {
     match color(parts) {
         Some(c) => Ok(Declared::Color {
@@ -148,7 +149,7 @@ fn color_value(parts: &[Part]) -> Result<Declared, ValueFault>
 }
 
 fn angle_value(range: ValueRange, parts: &[Part]) -> Result<Declared, ValueFault>
-    ensures { result ≡ read_of (angle_in range) (lone (map seen parts.now)) }
+    ensures { result ≡ read_of (angle_in range) (lone (map token_part parts.now)) }
 {
     match parts {
         [Part::Dimension { number, unit }] => angle(range, number, unit),
@@ -157,7 +158,7 @@ fn angle_value(range: ValueRange, parts: &[Part]) -> Result<Declared, ValueFault
 }
 
 fn angle(range: ValueRange, text: &[u8], unit: &[u8]) -> Result<Declared, ValueFault>
-    ensures { result ≡ (if names unit.now (codes "deg") then mapped Declared.Angle (number_in range text.now) else Err ValueFault.Unsupported) }
+    ensures { result ≡ (if is_keyword unit.now (codes "deg") then reading_map Declared.Angle (number_in range text.now) else Err ValueFault.Unsupported) }
 {
     if !is_keyword(unit, b"deg") {
         return Err(ValueFault::Unsupported);
@@ -169,7 +170,7 @@ fn angle(range: ValueRange, text: &[u8], unit: &[u8]) -> Result<Declared, ValueF
 }
 
 fn pair_value(parts: &[Part]) -> Result<Declared, ValueFault>
-    ensures { result ≡ pair_in (map seen parts.now) }
+    ensures { result ≡ pair_in (map token_part parts.now) }
 {
     match parts {
         [part] => match length_or_percent(part) {
@@ -198,10 +199,10 @@ fn both(x: Result<Size, ValueFault>, y: Result<Size, ValueFault>) -> Result<Decl
 }
 
 fn visibility_value(parts: &[Part]) -> Result<Declared, ValueFault>
-    ensures { result ≡ read_of (λ word. supported (option_map Declared.Visible (look_up visibility_words word))) (lone_word (map seen parts.now)) }
+    ensures { result ≡ read_of (λ word. or_unsupported (option_map Declared.Visible (visibility_named word))) (lone_word (map token_part parts.now)) }
 {
     match parts {
-        [Part::Ident(word)] => match visibility_named(word) {
+        [Part::Ident(word)] => match Visibility::by_keyword(word) {
             Some(v) => Ok(Declared::Visible(v)),
             None => Err(ValueFault::Unsupported),
         },
@@ -209,49 +210,14 @@ fn visibility_value(parts: &[Part]) -> Result<Declared, ValueFault>
     }
 }
 
-fn visibility_named(word: &[u8]) -> Option<Visibility>
-    ensures { result ≡ look_up visibility_words word.now }
-{
-    look_up(
-        &[
-            ("visible", Visibility::Visible),
-            ("hidden", Visibility::Hidden),
-            ("collapse", Visibility::Collapse),
-        ],
-        word,
-    )
-}
-
 fn display_value(parts: &[Part]) -> Result<Declared, ValueFault>
-    ensures { result ≡ read_of (λ word. supported (option_map Declared.Display (look_up display_words word))) (lone_word (map seen parts.now)) }
+    ensures { result ≡ read_of (λ word. or_unsupported (option_map Declared.Display (display_named word))) (lone_word (map token_part parts.now)) }
 {
     match parts {
-        [Part::Ident(word)] => match display_named(word) {
+        [Part::Ident(word)] => match Display::by_keyword(word) {
             Some(d) => Ok(Declared::Display(d)),
             None => Err(ValueFault::Unsupported),
         },
         _ => Err(ValueFault::Unsupported),
     }
-}
-
-fn display_named(word: &[u8]) -> Option<Display>
-    ensures { result ≡ look_up display_words word.now }
-{
-    look_up(
-        &[
-            ("none", Display::Nothing),
-            ("block", Display::Block),
-            ("inline", Display::Inline),
-            ("inline-block", Display::InlineBlock),
-            ("flow-root", Display::FlowRoot),
-            ("list-item", Display::ListItem),
-            ("flex", Display::Flex),
-            ("inline-flex", Display::InlineFlex),
-            ("grid", Display::Grid),
-            ("inline-grid", Display::InlineGrid),
-            ("table", Display::Table),
-            ("contents", Display::Contents),
-        ],
-        word,
-    )
 }

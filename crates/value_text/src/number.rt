@@ -1,6 +1,6 @@
 //! Numbers and integers of values.
 ghost use Rattle.std.specs.Prelude.{◌≡◌};
-ghost use Rattle.value_text.specs.NumberReading.{begins_minus, channel_of, far_in_range, integer_in, is_in_range, number_in};
+ghost use Rattle.value_text.specs.NumberReading.{begins_minus, channel_of, far_in_range, integer_in, number_in};
 
 use fix_num::limits::{MAX_INTEGER, MAX_NUMBER};
 use fix_num::{Fix, NumFault, has_no_point, read_decimal_bytes, read_rounded_bytes};
@@ -16,7 +16,7 @@ pub(crate) fn number(range: ValueRange, text: &[u8]) -> Result<Fix, ValueFault>
 {
     match read_rounded_bytes(text, 6, MAX_NUMBER as i64) {
         Ok(n) => {
-            if is_in_range(range, n) {
+            if range.contains(Fix(n)) {
                 Ok(Fix(n))
             } else {
                 Err(ValueFault::Unsupported)
@@ -31,16 +31,6 @@ pub(crate) fn number(range: ValueRange, text: &[u8]) -> Result<Fix, ValueFault>
         }
         Err(NumFault::Syntax) => Err(ValueFault::Unsupported),
         Err(NumFault::TooFine) => Err(ValueFault::Unsupported),
-    }
-}
-
-fn is_in_range(range: ValueRange, n: i64) -> bool
-    ensures { result ≡ is_in_range range n }
-{
-    match range {
-        ValueRange::All | ValueRange::Nothing => true,
-        ValueRange::NotNegative => n >= 0,
-        ValueRange::ZeroToOne => n >= 0 && n <= 1_000_000,
     }
 }
 
