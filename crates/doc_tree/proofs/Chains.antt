@@ -6,9 +6,9 @@ use Rattle.std.proofs.lemmas.Bool.{cases_Bool, eqb-true, eq-eqb, ne_eqb, or_case
 use Rattle.std.proofs.lemmas.List.Folds.{list_any-append}
 use Rattle.doc_tree.specs.Element.{Element, is_in, chain, reversed_onto}
 
--- q is one of xs
-abbrev pub Has : ℕ → List ℕ → Type 0
-Has q xs = list_any (eqb q) xs ≡ true
+-- element q is one of xs
+abbrev pub Has : ℕ → List Element → Type 0
+Has q xs = is_in q xs ≡ true
 
 -- no number stands twice among the elements
 abbrev pub Differ : List Element → Type 0
@@ -16,12 +16,12 @@ Differ [] = Unit {0}
 Differ (e ∷ earlier) = (is_in e.number earlier ≡ false) × Differ earlier
 
 -- xs ends ys
-pub record Ends (xs ys : List ℕ) : Type 0 where
-  pub front : List ℕ
+pub record Ends (xs ys : List Element) : Type 0 where
+  pub front : List Element
   pub is : ys ≡ front ++ xs
 
--- the chain of the last element is its number and the chain of its parent
-pub chain-here : (e : Element) (earlier : List Element) (n : ℕ) → eqb e.number n ≡ true → chain (e ∷ earlier) n ≡ n ∷ option_map_or (chain earlier) e.parent []
+-- the chain of the last element is itself and the chain of its parent
+pub chain-here : (e : Element) (earlier : List Element) (n : ℕ) → eqb e.number n ≡ true → chain (e ∷ earlier) n ≡ e ∷ option_map_or (chain earlier) e.parent []
 unfolding chain
 chain-here e earlier n h = rw h
 
@@ -44,7 +44,7 @@ chain-past_all (e ∷ es) earlier n h =
 pub chain-has_self : (es : List Element) (n : ℕ) → is_in n es ≡ true → Has n (chain es n)
 chain-has_self [] n h = absurd (false≢true h)
 chain-has_self (e ∷ es) n h =
-    elim (cases_Bool (eqb e.number n)) [ inl same ↦ rw (chain-here e es n same) (or_left _ _ (eq-eqb n n refl)) | inr other ↦ rw (chain-past e es n other) (chain-has_self es n (elim (or_cases _ _ h) [ inl same ↦ absurd (false≢true (sym other ∙ same)) | inr within ↦ within ])) ]
+    elim (cases_Bool (eqb e.number n)) [ inl same ↦ rw (chain-here e es n same) (or_left _ _ same) | inr other ↦ rw (chain-past e es n other) (chain-has_self es n (elim (or_cases _ _ h) [ inl same ↦ absurd (false≢true (sym other ∙ same)) | inr within ↦ within ])) ]
 
 has-above : (es : List Element) (q : ℕ) (parent : Option ℕ) → ((p : ℕ) → Has q (chain es p) → is_in q es ≡ true) → Has q (option_map_or (chain es) parent []) → is_in q es ≡ true
 has-above es q None step h = absurd (false≢true h)
@@ -55,8 +55,8 @@ pub is_in-chain : (es : List Element) (q n : ℕ) → Has q (chain es n) → is_
 is_in-chain [] q n h = absurd (false≢true (rw (chain-nil n) at h))
 is_in-chain (e ∷ es) q n h =
     elim (cases_Bool (eqb e.number n)) [
-      | inl same ↦ (elim (or_cases (eqb q n) _ (rw (chain-here e es n same) at h)) [
-        | inl self ↦ or_left _ _ (eq-eqb e.number q (eqb-true _ _ same ∙ sym (eqb-true _ _ self)))
+      | inl same ↦ (elim (or_cases (eqb e.number q) _ (rw (chain-here e es n same) at h)) [
+        | inl self ↦ or_left _ _ self
         | inr above ↦ or_right _ _ (has-above es q e.parent (λ p. is_in-chain es q p) above)
       ])
       | inr other ↦ or_right _ _ (is_in-chain es q n (rw (chain-past e es n other) at h))
@@ -76,31 +76,31 @@ pub chain-ends : (es : List Element) (q n : ℕ) → Differ es → Has q (chain 
 chain-ends [] q n d h = absurd (false≢true (rw (chain-nil n) at h))
 chain-ends (e ∷ es) q n d h =
     elim (cases_Bool (eqb e.number n)) [
-      | inl same ↦ (elim (or_cases (eqb q n) _ (rw (chain-here e es n same) at h)) [
-        | inl self ↦ record { front = []; is = ap (chain (e ∷ es)) (sym (eqb-true _ _ self)) }
+      | inl same ↦ (elim (or_cases (eqb e.number q) _ (rw (chain-here e es n same) at h)) [
+        | inl self ↦ record { front = []; is = ap (chain (e ∷ es)) (sym (eqb-true _ _ same) ∙ eqb-true _ _ self) }
         | inr above ↦
             let up = ends-above es q e.parent (λ p. chain-ends es q p d.1) above in
             let kept = chain-kept e es q d.0 (has-above es q e.parent (λ p. is_in-chain es q p) above) in
-            record { front = n ∷ up.front; is = chain-here e es n same ∙ ap (λ (xs : List ℕ). n ∷ xs) (up.is ∙ ap (λ (xs : List ℕ). up.front ++ xs) (sym kept)) }
+            record { front = e ∷ up.front; is = chain-here e es n same ∙ ap (λ (xs : List Element). e ∷ xs) (up.is ∙ ap (λ (xs : List Element). up.front ++ xs) (sym kept)) }
       ])
       | inr other ↦
           let within : Has q (chain es n) = rw (chain-past e es n other) at h in
           let up = chain-ends es q n d.1 within in
           let kept = chain-kept e es q d.0 (is_in-chain es q n within) in
-          record { front = up.front; is = chain-past e es n other ∙ (up.is ∙ ap (λ (xs : List ℕ). up.front ++ xs) (sym kept)) }
+          record { front = up.front; is = chain-past e es n other ∙ (up.is ∙ ap (λ (xs : List Element). up.front ++ xs) (sym kept)) }
     ]
 
 -- of two ends of one list the shorter ends the longer
-shorter_ends : (xs ys a b : List ℕ) → xs ++ a ≡ ys ++ b → length a ≤ length b → Ends a b
+shorter_ends : (xs ys a b : List Element) → xs ++ a ≡ ys ++ b → length a ≤ length b → Ends a b
 shorter_ends [] [] a b e short = record { front = []; is = sym e }
 shorter_ends [] (y ∷ ys) a b e short = absurd (omega (arith, ap length e, length-append (y ∷ ys) b))
 shorter_ends (x ∷ xs) [] a b e short = record { front = x ∷ xs; is = sym e }
 shorter_ends (x ∷ xs) (y ∷ ys) a b e short = shorter_ends xs ys a b (cc) short
 
-pub has-end : (q : ℕ) (xs ys : List ℕ) → Ends xs ys → Has q xs → Has q ys
+pub has-end : (q : ℕ) (xs ys : List Element) → Ends xs ys → Has q xs → Has q ys
 has-end q xs ys ends h = rw (ends.is, list_any-append) (or_right _ _ h)
 
-pub length-end : (xs ys : List ℕ) → Ends xs ys → length xs ≤ length ys
+pub length-end : (xs ys : List Element) → Ends xs ys → length xs ≤ length ys
 length-end xs ys ends = omega (arith, ap length ends.is, length-append ends.front xs)
 
 -- of two ancestors of an element the one that lies no deeper is an ancestor of the other, or the same

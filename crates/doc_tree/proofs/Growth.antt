@@ -3,7 +3,6 @@ use Rattle.std.proofs.Common.{◌≡◌, ℕ, ◌<◌, ◌≤◌, true, false, e
 use Rattle.std.specs.Option.{option_map_or}
 use Rattle.std.specs.Prelude.{nat_lt}
 use Rattle.std.specs.List.{list_any, prefix_len}
-use Rattle.doc_tree.specs.Nodes.{depths_from}
 use Rattle.std.proofs.lemmas.Bool.{cases_Bool, ltb-true, ltb-false, eq-eqb, ne_eqb, or_cases, or_parts, or_from, or_left, or_right, false_from_ne_true, false≢true}
 use Rattle.doc_tree.specs.Element.{Element, is_in, chain, reversed_onto}
 use Rattle.doc_tree.specs.Shape.{Follows, IsNext, IsGrown}
@@ -77,74 +76,29 @@ pub parent_there : (last : Element) (r : List Element) (parent : Option ℕ) →
 parent_there last r None f = absurd f
 parent_there last r (Some p) f = record { number = p; is = refl; above = f }
 
-pub chain-child : (e : Element) (r : List Element) (q : ℕ) → e.parent ≡ Some q → chain (e ∷ r) e.number ≡ e.number ∷ chain r q
+pub chain-child : (e : Element) (r : List Element) (q : ℕ) → e.parent ≡ Some q → chain (e ∷ r) e.number ≡ e ∷ chain r q
 chain-child e r q is =
-    chain-here e r e.number (eq-eqb e.number e.number refl) ∙ ap (λ (o : Option ℕ). e.number ∷ option_map_or (chain r) o []) is
+    chain-here e r e.number (eq-eqb e.number e.number refl) ∙ ap (λ (o : Option ℕ). e ∷ option_map_or (chain r) o []) is
 
 -- the next element is outside a subtree where the last one is, or where it lies too high
 outside_next : (p : ℕ) (last e : Element) (r : List Element) → IsNext (last ∷ r) e → is_in p (last ∷ r) ≡ true
     → ((q : ℕ) → Has q (chain (last ∷ r) last.number) → Has p (chain (last ∷ r) q) → e.parent ≡ Some q → ⊥)
-    → list_any (eqb p) (chain (e ∷ last ∷ r) e.number) ≡ false
+    → is_in p (chain (e ∷ last ∷ r) e.number) ≡ false
 outside_next p last e r next there barred =
     let above = parent_there last r e.parent next.follows in
     rw (chain-child e (last ∷ r) above.number above.is)
-    (or_from _ _ (ne_eqb _ _ (λ same. false≢true (sym (other_number e (last ∷ r) p next.differs there) ∙ eq-eqb _ _ (sym same))))
+    (or_from _ _ (other_number e (last ∷ r) p next.differs there)
     (false_from_ne_true _ (λ h. barred above.number above.above h above.is)))
 
 -- no element of es is in p's subtree, in the tree of the elements `all`, the last first
 abbrev pub NoneWithin : ℕ → List Element → List Element → Type 0
-NoneWithin p all es = list_any (λ e. list_any (eqb p) (chain all e.number)) es ≡ false
+NoneWithin p all es = list_any (λ e. is_in p (chain all e.number)) es ≡ false
 
 -- once elements have left a subtree, none that follows is in it
 pub outside_rest : (p : ℕ) (last : Element) (r es : List Element) → Differ (last ∷ r) → IsGrown (last ∷ r) es → is_in p (last ∷ r) ≡ true
-    → list_any (eqb p) (chain (last ∷ r) last.number) ≡ false → NoneWithin p (reversed_onto es (last ∷ r)) es
+    → is_in p (chain (last ∷ r) last.number) ≡ false → NoneWithin p (reversed_onto es (last ∷ r)) es
 outside_rest p last r [] d g there out = refl
 outside_rest p last r (e ∷ es) d g there out =
     let next = outside_next p last e r g.0 there (λ q hq hp is. false≢true (sym out ∙ has-end p _ _ (chain-ends (last ∷ r) q last.number d hq) hp)) in
-    or_from _ _ (ap (λ (c : List ℕ). list_any (eqb p) c) (chain-stays e es (last ∷ r) g.1) ∙ next)
+    or_from _ _ (ap (is_in p) (chain-stays e es (last ∷ r) g.1) ∙ next)
     (outside_rest p e (last ∷ r) es (g.0.differs, d) g.1 (or_right _ _ there) next)
-
--- an element that lies deeper than p, behind one of p's subtree, is in it
-inside_next : (p : ℕ) (last e : Element) (r : List Element) → Differ (last ∷ r) → IsNext (last ∷ r) e → Has p (chain (last ∷ r) last.number)
-    → length (chain (last ∷ r) p) < length (chain (e ∷ last ∷ r) e.number) → Has p (chain (e ∷ last ∷ r) e.number)
-inside_next p last e r d next within deeper =
-    let above = parent_there last r e.parent next.follows in
-    let is : chain (e ∷ last ∷ r) e.number ≡ e.number ∷ chain (last ∷ r) above.number = chain-child e (last ∷ r) above.number above.is in
-    let short : length (chain (last ∷ r) p) ≤ length (chain (last ∷ r) above.number) = omega (arith, ap length is) in
-    rw is (or_right _ _ (chain-linear (last ∷ r) p above.number last.number d within above.above short))
-
--- of the elements es behind `last`, which is in p's subtree, the first k are in it, and those behind them are not
-pub record IsCut (p : ℕ) (last : Element) (r es : List Element) (k : ℕ) : Type 0 where
-  pub front : List Element
-  pub end : Element
-  pub is : last ∷ take k es ≡ front ++ end ∷ []
-  pub within : Has p (chain (reversed_onto es (last ∷ r)) end.number)
-  pub none : NoneWithin p (reversed_onto es (last ∷ r)) (drop k es)
-
--- a subtree goes on for as long as elements lie deeper
-pub cut_where_higher : (p : ℕ) (last : Element) (r es : List Element) (depth k : ℕ) → Differ (last ∷ r) → IsGrown (last ∷ r) es
-    → Has p (chain (last ∷ r) last.number) → depth ≡ length (chain (last ∷ r) p) → k ≡ prefix_len (nat_lt depth) (depths_from (last ∷ r) es) → IsCut p last r es k
-cut_where_higher p last r [] depth k d g within deep is =
-    subst (λ (k : ℕ). IsCut p last r [] k) (sym is) (record { front = []; end = last; is = refl; within = within; none = refl })
-cut_where_higher p last r (e ∷ es) depth k d g within deep is =
-    let there : is_in p (last ∷ r) ≡ true = is_in-chain (last ∷ r) p last.number within in
-    let rest = prefix_len (nat_lt depth) (depths_from (e ∷ last ∷ r) es) in
-    elim (cases_Bool (nat_lt depth (length (chain (e ∷ last ∷ r) e.number)))) [
-      | inl deeper ↦
-          let one : k ≡ suc rest = is ∙ (rw deeper (omega arith)) in
-          let inside = inside_next p last e r d g.0 within (omega (arith, ltb-true _ _ deeper)) in
-          let cut = cut_where_higher p e (last ∷ r) es depth rest (g.0.differs, d) g.1 inside (deep ∙ ap length (sym (chain-kept e (last ∷ r) p g.0.differs there))) refl in
-          subst (λ (k : ℕ). IsCut p last r (e ∷ es) k) (sym one)
-          (record { front = last ∷ cut.front; end = cut.end; is = ap (λ (xs : List Element). last ∷ xs) cut.is; within = cut.within; none = cut.none })
-      | inr higher ↦
-          let none : k ≡ 0 = is ∙ (rw higher refl) in
-          let next = outside_next p last e r g.0 there (λ q hq hp parent. absurd (omega (arith, ltb-false _ _ higher, chain-shorter (last ∷ r) p q d hp, ap length (chain-child e (last ∷ r) q parent)))) in
-          subst (λ (k : ℕ). IsCut p last r (e ∷ es) k) (sym none)
-          (record {
-            front = [];
-            end = last;
-            is = refl;
-            within = rw (chain-past_all (e ∷ es) (last ∷ r) last.number (later_differ last.number (e ∷ es) (last ∷ r) g (there_itself last r))) within;
-            none = or_from _ _ (ap (λ (c : List ℕ). list_any (eqb p) c) (chain-stays e es (last ∷ r) g.1) ∙ next) (outside_rest p e (last ∷ r) es (g.0.differs, d) g.1 (or_right _ _ there) next);
-          })
-    ]

@@ -1,8 +1,18 @@
-pub mod Adding
-pub mod Chains
-pub mod Growth
-pub mod Insertion
-pub mod Lists
-pub mod Places
-pub mod Restyling
-pub mod Trees
+mod Chains
+mod Lists
+mod Growth
+mod Trees
+mod Numbers
+mod Links
+mod Tours
+mod Standing
+mod Spans
+mod Sound
+mod Putting
+mod Adding
+mod Removing
+mod Changing
+mod Ordering
+mod Walks
+mod Faults
+mod Names

@@ -4,7 +4,7 @@ use Rattle.std.specs.Option.{option_map_or}
 use Rattle.std.specs.List.{list_any, filter, position}
 use Rattle.std.proofs.lemmas.Bool.{cases_Bool, cases_order, eq-eqb, or_from, or_left, or_right, or_parts, false≢true}
 use Rattle.std.proofs.lemmas.List.Folds.{list_any-append}
-use Rattle.doc_tree.specs.Element.{Element, Document, is_in, is_used, is_within, chain, reversed_onto, lineage, position_of}
+use Rattle.doc_tree.specs.Element.{Element, Document, is_in, is_used, is_inclusive_descendant, chain, reversed_onto, inclusive_ancestors, position_of}
 use Rattle.doc_tree.specs.Shape.{Follows, IsNext, IsGrown}
 use Rattle.doc_tree.specs.Change.{EndsSubtree, IsAdded, IsLastPlace}
 use Rattle.doc_tree.proofs.Chains.{Differ, chain-here, chain-past_all, is_in-chain}
@@ -74,23 +74,23 @@ above-stays : (es r : List Element) (o : Option ℕ) → ((p : ℕ) → o ≡ So
 above-stays es r None same = refl
 above-stays es r (Some p) same = same p refl
 
-pub tree-lineage : (es before after : List Element) (e : Element) → IsGrown [] es → es ≡ before ++ e ∷ after → lineage es e.number ≡ e.number ∷ option_map_or (lineage es) e.parent []
-tree-lineage es before after e g is =
+pub tree-ancestors : (es before after : List Element) (e : Element) → IsGrown [] es → es ≡ before ++ e ∷ after → inclusive_ancestors es e.number ≡ e ∷ option_map_or (inclusive_ancestors es) e.parent []
+tree-ancestors es before after e g is =
     let m = met es before after e g is in
     let r = reversed_onto before [] in
-    let own : lineage es e.number ≡ e.number ∷ option_map_or (chain r) e.parent [] =
+    let own : inclusive_ancestors es e.number ≡ e ∷ option_map_or (chain r) e.parent [] =
     ap (λ (xs : List Element). chain xs e.number) m.all ∙ (chain-stays e after r m.rest ∙ chain-here e r e.number (eq-eqb e.number e.number refl)) in
-    let later : (p : ℕ) → e.parent ≡ Some p → lineage es p ≡ chain r p =
+    let later : (p : ℕ) → e.parent ≡ Some p → inclusive_ancestors es p ≡ chain r p =
     λ p parent.
     let there : is_in p r ≡ true = parent-in r e.parent p m.next.follows parent in
     ap (λ (xs : List Element). chain xs p) m.all ∙ chain-past_all (e ∷ after) r p (later_differ p (e ∷ after) r (m.next, m.rest) there) in
-    own ∙ ap (λ (c : List ℕ). e.number ∷ c) (sym (above-stays (reversed_onto es []) r e.parent later))
+    own ∙ ap (λ (c : List Element). e ∷ c) (sym (above-stays (reversed_onto es []) r e.parent later))
 
-pub tree-together : (es before after : List Element) (e : Element) (a : ℕ) → IsGrown [] es → es ≡ before ++ e ∷ after → is_in a before ≡ true → is_within es a e.number ≡ false → list_any (λ later. is_within es a later.number) after ≡ false
+pub tree-together : (es before after : List Element) (e : Element) (a : ℕ) → IsGrown [] es → es ≡ before ++ e ∷ after → is_in a before ≡ true → is_inclusive_descendant es a e.number ≡ false → list_any (λ later. is_inclusive_descendant es a later.number) after ≡ false
 tree-together es before after e a g is there out =
     let m = met es before after e g is in
     let r = reversed_onto before [] in
-    let left : list_any (eqb a) (chain (e ∷ r) e.number) ≡ false = sym (ap (list_any (eqb a)) (ap (λ (xs : List Element). chain xs e.number) m.all ∙ chain-stays e after r m.rest)) ∙ out in
+    let left : is_in a (chain (e ∷ r) e.number) ≡ false = sym (ap (is_in a) (ap (λ (xs : List Element). chain xs e.number) m.all ∙ chain-stays e after r m.rest)) ∙ out in
     subst (λ (xs : List Element). NoneWithin a xs after) (sym m.all) (outside_rest a e r after m.differ m.rest (or_right _ _ (is_in-onto_there a before [] there)) left)
 
 -- the second of two splits of a list, from the first on
@@ -112,8 +112,8 @@ not_shorter : (p : ℕ) (before after before' after' : List Element) → EndsSub
 not_shorter p before after before' after' a b same short =
     let whole : before ++ after ≡ b.front ++ (b.last ∷ after') = same ∙ (ap (λ (xs : List Element). xs ++ after') b.is_last ∙ append_assoc b.front (b.last ∷ []) after') in
     let on = goes_on before after b.front (b.last ∷ after') whole (omega (arith, ap length b.is_last, length-append b.front (b.last ∷ []))) in
-    let within : is_within (before ++ after) p b.last.number ≡ true = subst (λ (es : List Element). is_within es p b.last.number ≡ true) (sym same) b.within in
-    let test = (λ (e : Element). is_within (before ++ after) p e.number) in
+    let within : is_inclusive_descendant (before ++ after) p b.last.number ≡ true = subst (λ (es : List Element). is_inclusive_descendant es p b.last.number ≡ true) (sym same) b.within in
+    let test = (λ (e : Element). is_inclusive_descendant (before ++ after) p e.number) in
     let some : list_any test after ≡ true = ap (list_any test) on.back ∙ (list_any-append test on.middle (b.last ∷ after') ∙ or_right _ _ (or_left _ _ within)) in
     false≢true (sym a.none_after ∙ some)
 

@@ -2,4 +2,4 @@ pub mod Element
 pub mod Shape
 pub mod Fault
 pub mod Change
-pub mod Nodes
+pub mod Marks

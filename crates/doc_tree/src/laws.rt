@@ -4,18 +4,17 @@ ghost use Rattle.std.specs.Prelude.{◌≡◌, ℕ, ◌==◌, not, true, false, 
 ghost use Rattle.std.specs.List.{filter, list_any};
 ghost use Rattle.std.specs.Option.{option_map_or};
 ghost use Rattle.doc_tree.specs.Change.{IsAdded};
-ghost use Rattle.doc_tree.specs.Element.{Document, Element, is_in, is_used, is_within, lineage, position_of};
+ghost use Rattle.doc_tree.specs.Element.{Document, Element, is_in, is_used, inclusive_ancestors, is_inclusive_descendant, position_of};
 ghost use Rattle.doc_tree.specs.Fault.{Answers};
 ghost use Rattle.doc_tree.specs.Shape.{IsTree};
 ghost use Rattle.doc_tree.specs.declared.fault.TreeFault.{TreeFault};
 ghost use Rattle.doc_tree.specs.declared.fault.TreeFault.TheVariants.{NoMemory};
 
-/// The lineage of an element is its number and then the lineage of its parent; the root's is its
-/// number alone.
-pub fn lineage_goes_by_parents()
+/// The inclusive ancestors of an element are itself and then those of its parent; the root's are itself alone.
+pub fn ancestors_go_by_parents()
     ensures { (d : Document) (before after : List Element) (e : Element)
         → IsTree d → d.elements ≡ before ++ e ∷ after
-        → lineage d.elements e.number ≡ e.number ∷ option_map_or (lineage d.elements) e.parent [] }
+        → inclusive_ancestors d.elements e.number ≡ e ∷ option_map_or (inclusive_ancestors d.elements) e.parent [] }
 {}
 
 /// No two elements have one number.
@@ -43,8 +42,8 @@ pub fn one_root()
 pub fn subtrees_stand_together()
     ensures { (d : Document) (before after : List Element) (e : Element) (a : ℕ)
         → IsTree d → d.elements ≡ before ++ e ∷ after
-        → IsTrue (is_in a before) → is_within d.elements a e.number ≡ false
-        → list_any (λ later. is_within d.elements a later.number) after ≡ false }
+        → IsTrue (is_in a before) → is_inclusive_descendant d.elements a e.number ≡ false
+        → list_any (λ later. is_inclusive_descendant d.elements a later.number) after ≡ false }
 {}
 
 /// An add has one outcome.

@@ -1,25 +1,32 @@
-ghost use Rattle.std.specs.Prelude.{◌≡◌, ◌≤◌, length, IfOk, IfSome, OnOk, OnErr};
-ghost use Rattle.std.specs.Option.{option_map};
-ghost use Rattle.doc_tree.specs.Element.{is_in, position_of, style_of};
-ghost use Rattle.doc_tree.specs.Shape.{IsTree, IsWithinLimits};
-ghost use Rattle.doc_tree.specs.Change.{empty_document, new_element, with_style, IsAdded};
-ghost use Rattle.doc_tree.specs.Fault.{Answers, fault_of_add, fault_of_change};
+//! The tree.
 
-use crate::edit::{add_node, restyle_node};
+ghost use Rattle.std.specs.Prelude.{◌≡◌, ◌≤◌, ◌<◌, ◌↔◌, [], ◌∷◌, map, length, is_some, slice_get, IfOk, IfSome, IsTrue, OnOk, OnErr, option_map, option_copied};
+ghost use Rattle.std.specs.Option.{option_map_or};
+ghost use Rattle.doc_tree.specs.Element.{depth_of, element_of, inclusive_ancestors, is_in, numbers_of, parent_of, position_of, style_of, subtree_end_of, subtree_of};
+ghost use Rattle.doc_tree.specs.Shape.{IsTree, IsWithinLimits};
+ghost use Rattle.doc_tree.specs.Change.{empty_document, new_element, with_classes, with_id, with_style, without, IsAdded, IsInserted};
+ghost use Rattle.doc_tree.specs.Fault.{Answers, fault_of_add, fault_of_change, fault_of_classes, fault_of_insert};
+
+use crate::add::{add_node, insert_node};
+use crate::change::{set_classes_of, set_id_of, set_style_of};
+use crate::element::Element;
 use crate::fault::TreeFault;
-use crate::limits::MAX_STYLE_BYTES;
-use crate::node::Node;
-use crate::place::index_of;
-use indexmap::IndexSet;
+use crate::limits::{MAX_CLASSES, MAX_STYLE_BYTES};
+use crate::nodes::Nodes;
+use crate::order::{count_positions, element_in_order, position_in, subtree_end_in};
+use crate::remove::remove_nodes;
+use crate::slots::{empty_nodes, node_of, slot_of};
 use std::alloc::{AllocError, Global};
 use std::marker::Model;
 
 /// A document: its elements in tree order, and the numbers used for them so far (DOM, "Trees").
+///
+/// An edit costs a look-up and constant work; `remove` costs the size of what it removes. Positions are counted by
+/// [`Tree::renumber`] in one walk, and cost a look-up until the next `add`, `insert` or `remove`.
 #[derive(Drop)]
 pub struct Tree {
     alloc: Global,
-    nodes: Vec<Node>,
-    used: IndexSet<u32>,
+    nodes: Nodes,
 }
 
 impl Model for Tree {
@@ -27,11 +34,11 @@ impl Model for Tree {
 
     ghost Value = { Document };
 
-    ghost use Rattle.doc_tree.specs.Nodes.{document_of, IsSound};
+    ghost use Rattle.doc_tree.specs.Marks.{document_of, kept_of, IsSound};
 
-    ghost view = { λ t. document_of t.nodes.items t.used.keys };
+    ghost view = { λ t. document_of (kept_of t.nodes) };
 
-    ghost invariant = { λ t. IsSound t.nodes.items t.used.keys };
+    ghost invariant = { λ t. IsSound (kept_of t.nodes) };
 }
 
 impl Tree {
@@ -41,8 +48,7 @@ impl Tree {
     {
         Ok(Tree {
             alloc,
-            nodes: Vec::new(alloc),
-            used: IndexSet::new(alloc),
+            nodes: empty_nodes(alloc)?,
         })
     }
 
@@ -56,7 +62,57 @@ impl Tree {
         ensures ok { OnOk result (IsAdded self.old self.new (new_element n parent tag.now)) }
         ensures err { OnErr result (self.new ≡ self.old) }
     {
-        add_node(self.alloc, &mut self.nodes, &mut self.used, n, parent, tag)
+        add_node(self.alloc, &mut self.nodes, n, parent, tag)
+    }
+
+    /// Adds element `n` directly before the sibling, below the same parent.
+    ///
+    /// The faults come in the order of [`Tree::add`]: `UnknownNode` where the sibling isn't in the tree, and
+    /// `BoundRoot` where it is the root. A refused insert leaves the tree as it was, and `n` free.
+    pub fn insert(&mut self, n: u32, sibling: u32, tag: &str) -> Result<(), TreeFault>
+        ensures fault { Answers (fault_of_insert self.old n sibling) result }
+        ensures ok { OnOk result (IsInserted self.old self.new n sibling tag.now) }
+        ensures err { OnErr result (self.new ≡ self.old) }
+    {
+        insert_node(self.alloc, &mut self.nodes, n, sibling, tag)
+    }
+
+    /// Removes element `n` and all below it; answers the removed numbers in tree order. They stay used.
+    ///
+    /// `UnknownNode` comes where `n` isn't in the tree, and else `NoMemory` may come; both leave the
+    /// tree as it was.
+    pub fn remove(&mut self, n: u32) -> Result<Vec<u32>, TreeFault>
+        ensures fault { Answers (fault_of_change self.old.elements n) result }
+        ensures numbers { IfOk result (λ numbers. numbers.items ≡ numbers_of (subtree_of self.old.elements n)) }
+        ensures ok { OnOk result (self.new ≡ without self.old n) }
+        ensures err { OnErr result (self.new ≡ self.old) }
+    {
+        remove_nodes(self.alloc, &mut self.nodes, n)
+    }
+
+    /// Replaces the id of element `n`; `None` takes it away.
+    ///
+    /// `UnknownNode` comes where `n` isn't in the tree, and else `NoMemory` may come; both leave the
+    /// tree as it was.
+    pub fn set_id(&mut self, n: u32, id: Option<&str>) -> Result<(), TreeFault>
+        ensures fault { Answers (fault_of_change self.old.elements n) result }
+        ensures ok { OnOk result (self.new ≡ with_id self.old n (option_map (λ text. text.now) id.entry)) }
+        ensures err { OnErr result (self.new ≡ self.old) }
+    {
+        set_id_of(self.alloc, &mut self.nodes, n, id)
+    }
+
+    /// Replaces the classes of element `n`. A repeated name counts once, and is kept where it came first.
+    ///
+    /// `UnknownNode` comes where `n` isn't in the tree, then `BoundClasses` where there are more than
+    /// [`MAX_CLASSES`](crate::MAX_CLASSES) different names, and else `NoMemory` may come; all leave the
+    /// tree as it was.
+    pub fn set_class(&mut self, n: u32, names: &[&str]) -> Result<(), TreeFault>
+        ensures fault { Answers (fault_of_classes self.old.elements n (map (λ text. text.now) names.now)) result }
+        ensures ok { OnOk result (self.new ≡ with_classes self.old n (map (λ text. text.now) names.now)) }
+        ensures err { OnErr result (self.new ≡ self.old) }
+    {
+        set_classes_of(self.alloc, &mut self.nodes, n, names)
     }
 
     /// Replaces the style text of element `n`.
@@ -69,7 +125,17 @@ impl Tree {
         ensures ok { OnOk result (self.new ≡ with_style self.old n text.now) }
         ensures err { OnErr result (self.new ≡ self.old) }
     {
-        restyle_node(self.alloc, &mut self.nodes, n, text)
+        set_style_of(self.alloc, &mut self.nodes, n, text)
+    }
+
+    /// Counts the positions of all elements in one walk, so that a position costs one look-up until the next edit
+    /// that moves elements. Changes nothing that can be seen.
+    pub fn renumber(&mut self)
+        ensures { self.new ≡ self.old }
+    {
+        if !self.nodes.fresh {
+            count_positions(&mut self.nodes);
+        }
     }
 
     /// How many elements there are.
@@ -78,23 +144,57 @@ impl Tree {
         ensures tree { IsTree self.now }
         ensures limits { IsWithinLimits self.now }
     {
-        self.nodes.len()
+        self.nodes.len
+    }
+
+    /// Whether there is no element.
+    pub fn is_empty(&self) -> bool
+        ensures { IsTrue result ↔ (self.now.elements ≡ []) }
+    {
+        self.nodes.len == 0
     }
 
     /// Whether element `n` is in the tree.
     pub fn contains(&self, n: u32) -> bool
         ensures { result ≡ is_in n self.now.elements }
     {
-        index_of(&self.nodes, n).is_some()
+        slot_of(&self.nodes, n).is_some()
     }
 
-    /// The place of element `n` in tree order, from 0; `None` where it isn't in the tree.
-    pub fn position(&self, n: u32) -> Option<u32>
-        ensures { result ≡ position_of n self.now }
+    /// Element `n`; `None` where it isn't in the tree. Its parent, where it has one, is in the tree, and one look-up
+    /// more; so its ancestors are had by a look-up each.
+    pub fn element(&self, n: u32) -> Option<&Element>
+        ensures value { option_copied result ≡ element_of n self.now.elements }
+        ensures found { IsTrue (is_some result) ↔ IsTrue (is_in n self.now.elements) }
+        ensures number { IfSome result (λ e. e.now.number ≡ n) }
+        ensures parent { IfSome result (λ e. IfSome e.now.parent (λ p. IsTrue (is_in p self.now.elements))) }
+        ensures ancestors { IfSome result (λ e. inclusive_ancestors self.now.elements n ≡ e.now ∷ option_map_or (inclusive_ancestors self.now.elements) e.now.parent []) }
+        ensures style_bytes { IfSome result (λ e. length e.now.style ≤ MAX_STYLE_BYTES) }
+        ensures classes { IfSome result (λ e. length e.now.classes ≤ MAX_CLASSES) }
     {
-        match index_of(&self.nodes, n) {
+        match node_of(&self.nodes, n) {
             None => None,
-            Some(at) => Some(at as u32),
+            Some(node) => Some(&node.element),
+        }
+    }
+
+    /// The number of the parent of element `n`; `None` where `n` is the root, or isn't in the tree.
+    pub fn parent(&self, n: u32) -> Option<u32>
+        ensures { result ≡ parent_of n self.now.elements }
+    {
+        match node_of(&self.nodes, n) {
+            None => None,
+            Some(node) => node.element.parent(),
+        }
+    }
+
+    /// How deep element `n` lies, 1 for the root; `None` where it isn't in the tree.
+    pub fn depth(&self, n: u32) -> Option<u32>
+        ensures { result ≡ option_map (λ _. depth_of self.now.elements n) (element_of n self.now.elements) }
+    {
+        match node_of(&self.nodes, n) {
+            None => None,
+            Some(node) => Some(node.depth),
         }
     }
 
@@ -103,83 +203,34 @@ impl Tree {
         ensures value { option_map (λ text. text.now) result ≡ style_of n self.now }
         ensures bytes { IfSome result (λ text. length text.now ≤ MAX_STYLE_BYTES) }
     {
-        match index_of(&self.nodes, n) {
+        match self.element(n) {
             None => None,
-            Some(at) => Some(self.nodes[at].style.as_str()),
+            Some(element) => Some(element.style()),
         }
     }
-}
 
-#[cfg(test)]
-mod tests {
-    use super::*;
-    use std::test::Fail;
-
-    #[test]
-    fn adds_in_tree_order(rt: HostRuntime) -> Result<(), Fail> {
-        let mut tree = Tree::new(rt.alloc())?;
-        let adds = [
-            (2, Some(1), Err(TreeFault::UnknownNode)),
-            (10, None, Ok(())),
-            (2, Some(10), Ok(())),
-            (3, Some(10), Ok(())),
-            (4, Some(2), Ok(())),
-            (5, Some(4), Ok(())),
-            (6, Some(2), Ok(())),
-            (3, Some(99), Err(TreeFault::UnknownNode)),
-            (3, Some(2), Err(TreeFault::NodeTaken)),
-            (10, None, Err(TreeFault::NodeTaken)),
-            (7, None, Err(TreeFault::BoundRoot)),
-            (7, Some(10), Ok(())),
-        ];
-        for (n, parent, want) in adds {
-            assert_eq!(rt; tree.add(n, parent, "a"), want, "add {n}");
-        }
-        assert_eq!(rt; tree.len(), 7);
-        for (n, want) in [
-            (10, Some(0)),
-            (2, Some(1)),
-            (4, Some(2)),
-            (5, Some(3)),
-            (6, Some(4)),
-            (3, Some(5)),
-            (7, Some(6)),
-            (8, None),
-        ] {
-            assert_eq!(rt; tree.position(n), want, "position {n}");
-            assert_eq!(rt; tree.contains(n), want.is_some(), "contains {n}");
-        }
-        Ok(())
+    /// The place of element `n` in tree order, from 0; `None` where it isn't in the tree. One look-up after
+    /// [`Tree::renumber`], else a walk.
+    pub fn position(&self, n: u32) -> Option<u32>
+        ensures value { result ≡ position_of n self.now }
+        ensures small { IfSome result (λ at. at < length self.now.elements) }
+    {
+        position_in(&self.nodes, n)
     }
 
-    #[test]
-    fn stops_at_the_greatest_depth(rt: HostRuntime) -> Result<(), Fail> {
-        let mut tree = Tree::new(rt.alloc())?;
-        let mut parent = None;
-        for n in 1..=256 {
-            assert_eq!(rt; tree.add(n, parent, "a"), Ok(()), "add {n}");
-            parent = Some(n);
-        }
-        assert_eq!(rt; tree.add(257, parent, "a"), Err(TreeFault::BoundDepth));
-        assert_eq!(rt; tree.add(257, Some(255), "a"), Ok(()));
-        assert_eq!(rt; tree.position(257), Some(256));
-        Ok(())
+    /// The place behind the subtree of element `n` in tree order: its next sibling, if it has one, stands there.
+    /// `None` where `n` isn't in the tree. One look-up after [`Tree::renumber`], else a walk.
+    pub fn subtree_end(&self, n: u32) -> Option<u32>
+        ensures { result ≡ subtree_end_of n self.now }
+    {
+        subtree_end_in(&self.nodes, n)
     }
 
-    #[test]
-    fn keeps_style_texts(rt: HostRuntime) -> Result<(), Fail> {
-        let mut tree = Tree::new(rt.alloc())?;
-        assert_eq!(rt; tree.add(1, None, "a"), Ok(()));
-        assert_eq!(rt; tree.add(2, Some(1), "b"), Ok(()));
-        assert_eq!(rt; tree.style(2), Some(""));
-        assert_eq!(rt; tree.set_style(2, "color: red"), Ok(()));
-        assert_eq!(rt;
-            tree.set_style(3, "color: red"),
-            Err(TreeFault::UnknownNode)
-        );
-        assert_eq!(rt; tree.style(1), Some(""));
-        assert_eq!(rt; tree.style(2), Some("color: red"));
-        assert_eq!(rt; tree.style(3), None);
-        Ok(())
+    /// The element at this place in tree order, from 0; `None` where there are no more. Constant work after
+    /// [`Tree::renumber`], else a walk: `for at in 0..tree.len()` goes over all elements.
+    pub fn at(&self, place: usize) -> Option<&Element>
+        ensures { option_copied result ≡ slice_get self.now.elements place }
+    {
+        element_in_order(&self.nodes, place)
     }
 }

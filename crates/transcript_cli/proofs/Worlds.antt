@@ -3,7 +3,7 @@ use Rattle.std.proofs.Common.{◌≡◌, ℕ, refl, ap, ◌∙◌, List, map}
 use Rattle.std.specs.Prelude.{Bool, true, false, is_some, if◌then◌else◌, IfSome, IsSomeAnd, Option, Some, None, ◌==◌}
 use Rattle.value_types.specs.declared.value.Value.{Value}
 use Rattle.doc_tree.specs.Element.{Element, Document}
-use Rattle.doc_tree.specs.Change.{with_style, restyled}
+use Rattle.doc_tree.specs.Change.{with_style}
 use Rattle.style_data.specs.declared.transition.Transition.{Transition}
 use Rattle.transcript_cli.specs.declared.refusal.Refusal.{Refusal}
 use Rattle.transcript_cli.specs.declared.refusal.Refusal.TheVariants.{Syntax}
@@ -13,9 +13,13 @@ same_number : (n : ℕ) (text : List ℕ) (e : Element) (b : Bool) → (if b the
 same_number n text e true = refl
 same_number n text e false = refl
 
-pub root_restyled : (root : Option ℕ) (tree : Document) (n : ℕ) (text : List ℕ) → IsRootOf root tree → IsRootOf root (with_style tree n text)
-root_restyled None tree n text e = rw e refl
-root_restyled (Some k) tree n text (e, is, one) = (restyled n text e, same_number n text e (e.number == n) ∙ is, ap (map (restyled n text)) one)
+-- element n with another style text
+abbrev styled : ℕ → List ℕ → Element → Element
+styled n text e = if e.number == n then record e { style = text } else e
+
+pub root_styled : (root : Option ℕ) (tree : Document) (n : ℕ) (text : List ℕ) → IsRootOf root tree → IsRootOf root (with_style tree n text)
+root_styled None tree n text e = rw e refl
+root_styled (Some k) tree n text (e, is, one) = (styled n text e, same_number n text e (e.number == n) ∙ is, ap (map (styled n text)) one)
 
 -- where a style is accepted, no transition runs
 pub none_runs : (P : Transition → Type 0) (running : Option Transition) (rest : Option Refusal) → (if is_some running then Some Syntax else rest) ≡ None → IfSome running P

@@ -1,11 +1,11 @@
-use Rattle.transcript_cli.proofs.Worlds.{root_restyled, none_runs}
+use Rattle.transcript_cli.proofs.Worlds.{root_styled, none_runs}
 use Rattle.transcript_cli.proofs.edit.set_style.Goals as goal
 
 pub returns-clause-sound : goal.returns-clause-sound
 returns-clause-sound c =
     let before = c.requires.sound in
     record {
-      root = rw c.in-Ok.ensures.ok (root_restyled c.args.world.now.root c.args.world.now.tree c.args.node c.args.text.now before.root);
+      root = rw c.in-Ok.ensures.ok (root_styled c.args.world.now.root c.args.world.now.tree c.args.node c.args.text.now before.root);
       time = before.time;
       style = c.requires.within.0;
       entry = before.entry;

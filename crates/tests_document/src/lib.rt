@@ -1,0 +1,7 @@
+//! Floor: document. Tests of the crates of this floor, and nothing else.
+#![tactic(auto)]
+
+#[cfg(test)]
+mod tree;
+#[cfg(test)]
+mod tree_limits;
