@@ -1,0 +1,4 @@
+pub mod Compounds
+pub mod Parts
+pub mod Spelling
+pub mod Reading
