@@ -118,8 +118,7 @@ module _ (n p : List ℕ) (o q m : ℕ) (next_len : length n ≡ o) (previous_le
 
   splice-middle : (xs : List ℕ) → Leads n p 0 xs m → m < o → IsAt n' o q × IsAt p' q o × IsAt n' q m × IsAt p' m q
   splice-middle xs l low =
-      let low_b : b < o = omega (arith, last_within n p 0 xs m l, next_len) in
-      (
+      let low_b : b < o = omega (arith, last_within n p 0 xs m l, next_len) in (
         at-set_other (n ++ q ∷ m ∷ []) b o q o (λ same. omega arith) (at-seam n (m ∷ []) o q (sym next_len)),
         at-set_other (p ++ b ∷ o ∷ []) m q o q (λ same. omega arith) (at-next p b o q (omega arith)),
         at-set_other (n ++ q ∷ m ∷ []) b q m o (λ same. omega arith) (at-next n q m q (omega arith)),
@@ -135,7 +134,7 @@ module _ (n p : List ℕ) (o q m : ℕ) (next_len : length n ≡ o) (previous_le
       let none = subst (λ (x : ℕ). has x xs ≡ false) (sym is) (absent-parts 1 xs [] no_end).0 in
       let middle = splice-middle xs to low_m in
       leads-join n' p' 0 xs o (q ∷ []) 1 (splice-front xs to (different-front (0 ∷ xs) [] d) none low_m)
-          (middle.0, middle.1, subst (λ (x : ℕ). IsAt n' q x × IsAt p' x q) is (middle.2, middle.3))
+      (middle.0, middle.1, subst (λ (x : ℕ). IsAt n' q x × IsAt p' x q) is (middle.2, middle.3))
   splice xs (y ∷ ys) l d no_end is low =
       let parts = leads-split n p 0 xs y ys 1 l in
       let to : Leads n p 0 xs m = subst (λ (x : ℕ). Leads n p 0 xs x) (sym is) parts.0 in

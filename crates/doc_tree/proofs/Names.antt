@@ -42,6 +42,7 @@ each_once-last (x ∷ xs) y =
     dropped : (x y : List ℕ) (b : Bool) → bytes_eq x y ≡ true → filter (λ z. not (bytes_eq x z)) (cond b [] (y ∷ [])) ≡ []
     dropped x y true same = refl
     dropped x y false same = rw same refl
+
     kept : (x y : List ℕ) (b : Bool) → bytes_eq x y ≡ false → filter (λ z. not (bytes_eq x z)) (cond b [] (y ∷ [])) ≡ cond b [] (y ∷ [])
     kept x y true differs = refl
     kept x y false differs = rw differs refl

@@ -125,7 +125,7 @@ module _ (k : Kept) (sound : IsSound k) (x : Node) (m : ℕ) (gap : IsGap k soun
         depth = own-depth ∙ gap.depth;
       } in
       nests-join el' dep' gap.xs (Open c ∷ Close c ∷ gap.ys) [] gap.stack [] (nests-same el el' dep dep' gap.xs [] gap.stack (λ t h. absurd (false≢true h)) same-front gap.front)
-          (below, (refl, nests-same el el' dep dep' gap.ys gap.stack [] same-stack same-back gap.back))
+      (below, (refl, nests-same el el' dep dep' gap.ys gap.stack [] same-stack same-back gap.back))
 
   codes-split : map code sound.marks ≡ map code gap.xs ++ map code gap.ys
   codes-split = ap (map code) gap.is ∙ map-append code gap.xs gap.ys
@@ -189,7 +189,7 @@ module _ (k : Kept) (sound : IsSound k) (x : Node) (m : ℕ) (gap : IsGap k soun
       let own : is_some (el' c).parent ≡ true = ap (λ (e : Element). is_some e.parent) own-element ∙ parent in
       let old = subst (λ (ss : List ℕ). list_all (λ s. is_some (el s).parent) (drop 1 ss) ≡ true) opened-split sound.tour.rooted in
       drop-put (λ (s : ℕ). is_some (el' s).parent) (opened gap.xs) (opened gap.ys) c q there own
-          (rooted-same el el' dep dep' (drop 1 (opened gap.xs ++ opened gap.ys)) (λ t h. same-below t (opened-within t (ap (has t) opened-split ∙ has-drop t (opened gap.xs ++ opened gap.ys) h))) old)
+      (rooted-same el el' dep dep' (drop 1 (opened gap.xs ++ opened gap.ys)) (λ t h. same-below t (opened-within t (ap (has t) opened-split ∙ has-drop t (opened gap.xs ++ opened gap.ys) h))) old)
 
   rooted-put : list_all (λ s. is_some (el' s).parent) (drop 1 (opened marks')) ≡ true
   rooted-put = subst (λ (ss : List ℕ). list_all (λ s. is_some (el' s).parent) (drop 1 ss) ≡ true) (sym opened-put) (rooted-cases gap.stack refl)

@@ -79,7 +79,7 @@ module _ (el : ℕ → Element) (dep : ℕ → ℕ) where
     within-inner : Each el dep (IsInside el dep ms s true) (opened sp.inner)
     within-inner =
         each-inside el dep ms (sp.before ++ Open s ∷ []) sp.inner (Close s ∷ sp.after) s (s ∷ sp.under) (s ∷ sp.under) p there (is-front ∙ sym (append_assoc sp.before (Open s ∷ []) (sp.inner ++ Close s ∷ sp.after)))
-            (nests-join el dep sp.before (Open s ∷ []) [] sp.under (s ∷ sp.under) sp.front (sp.below, refl)) sp.within (has-self s sp.under) closed-once
+        (nests-join el dep sp.before (Open s ∷ []) [] sp.under (s ∷ sp.under) sp.front (sp.below, refl)) sp.within (has-self s sp.under) closed-once
 
     outside-before : Each el dep (IsInside el dep ms s false) (opened sp.before)
     outside-before = each-outside el dep ms [] sp.before (Open s ∷ (sp.inner ++ Close s ∷ sp.after)) s [] sp.under p there is-front refl sp.front refl absent-before

@@ -207,9 +207,10 @@ module _ (el : ℕ → Element) (dep : ℕ → ℕ) where
   each-inside ms pre [] rest s stack end p there is front n inside closed = tt
   each-inside ms pre (Open t ∷ zs) rest s stack end p there is front n inside closed =
       let next : ms ≡ (pre ++ Open t ∷ []) ++ (zs ++ rest) = is ∙ sym (append_assoc pre (Open t ∷ []) (zs ++ rest)) in
-      let front' = nests-join el dep pre (Open t ∷ []) [] stack (t ∷ stack) front (n.0, refl) in
-      (subst (λ (b : Bool). IsInside ms s b t) (or_right (eqb s t) _ inside) (inside-stack ms pre (zs ++ rest) s t stack p there is front n.0),
-      each-inside ms (pre ++ Open t ∷ []) zs rest s (t ∷ stack) end p there next front' n.1 (or_right _ _ inside) (or_parts _ _ closed).1)
+      let front' = nests-join el dep pre (Open t ∷ []) [] stack (t ∷ stack) front (n.0, refl) in (
+        subst (λ (b : Bool). IsInside ms s b t) (or_right (eqb s t) _ inside) (inside-stack ms pre (zs ++ rest) s t stack p there is front n.0),
+        each-inside ms (pre ++ Open t ∷ []) zs rest s (t ∷ stack) end p there next front' n.1 (or_right _ _ inside) (or_parts _ _ closed).1,
+      )
   each-inside ms pre (Close t ∷ zs) rest s [] end p there is front n inside closed = absurd n
   each-inside ms pre (Close t ∷ zs) rest s (q ∷ stack) end p there is front n inside closed =
       let next : ms ≡ (pre ++ Close t ∷ []) ++ (zs ++ rest) = is ∙ sym (append_assoc pre (Close t ∷ []) (zs ++ rest)) in
@@ -228,9 +229,10 @@ module _ (el : ℕ → Element) (dep : ℕ → ℕ) where
   each-outside ms pre (Open t ∷ zs) rest s stack end p there is front n outside unopened =
       let next : ms ≡ (pre ++ Open t ∷ []) ++ (zs ++ rest) = is ∙ sym (append_assoc pre (Open t ∷ []) (zs ++ rest)) in
       let front' = nests-join el dep pre (Open t ∷ []) [] stack (t ∷ stack) front (n.0, refl) in
-      let parts = or_parts (eqb s t) _ unopened in
-      (subst (λ (b : Bool). IsInside ms s b t) (or_from (eqb s t) _ parts.0 outside) (inside-stack ms pre (zs ++ rest) s t stack p there is front n.0),
-      each-outside ms (pre ++ Open t ∷ []) zs rest s (t ∷ stack) end p there next front' n.1 (or_from _ _ parts.0 outside) parts.1)
+      let parts = or_parts (eqb s t) _ unopened in (
+        subst (λ (b : Bool). IsInside ms s b t) (or_from (eqb s t) _ parts.0 outside) (inside-stack ms pre (zs ++ rest) s t stack p there is front n.0),
+        each-outside ms (pre ++ Open t ∷ []) zs rest s (t ∷ stack) end p there next front' n.1 (or_from _ _ parts.0 outside) parts.1,
+      )
   each-outside ms pre (Close t ∷ zs) rest s [] end p there is front n outside unopened = absurd n
   each-outside ms pre (Close t ∷ zs) rest s (q ∷ stack) end p there is front n outside unopened =
       let next : ms ≡ (pre ++ Close t ∷ []) ++ (zs ++ rest) = is ∙ sym (append_assoc pre (Close t ∷ []) (zs ++ rest)) in

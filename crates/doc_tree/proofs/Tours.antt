@@ -214,11 +214,12 @@ pub nests-same : (el el' : ℕ → Element) (dep dep' : ℕ → ℕ) (ms : List 
     → Nests el dep ms stack end → Nests el' dep' ms stack end
 nests-same el el' dep dep' [] stack end under over n = n
 nests-same el el' dep dep' (Open s ∷ ms) stack end under over n =
-    let own = over s (has-self s (opened ms)) in
-    (below-same el el' dep dep' s stack own under n.0,
-    nests-same el el' dep dep' ms (s ∷ stack) end
-        (λ t h. elim (or_cases (eqb t s) (has t stack) h) [ inl is ↦ subst (IsSameAt el el' dep dep') (sym (eqb-true _ _ is)) own | inr later ↦ under t later ])
-        (λ t h. over t (or_right _ _ h)) n.1)
+    let own = over s (has-self s (opened ms)) in (
+      below-same el el' dep dep' s stack own under n.0,
+      nests-same el el' dep dep' ms (s ∷ stack) end
+          (λ t h. elim (or_cases (eqb t s) (has t stack) h) [ inl is ↦ subst (IsSameAt el el' dep dep') (sym (eqb-true _ _ is)) own | inr later ↦ under t later ])
+          (λ t h. over t (or_right _ _ h)) n.1,
+    )
 nests-same el el' dep dep' (Close s ∷ ms) [] end under over n = absurd n
 nests-same el el' dep dep' (Close s ∷ ms) (q ∷ stack) end under over n = (n.0, nests-same el el' dep dep' ms stack end (λ t h. under t (or_right _ _ h)) over n.1)
 

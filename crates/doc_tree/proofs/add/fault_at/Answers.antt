@@ -18,4 +18,4 @@ returns-then-nodes-gt0 c =
 pub returns : goal.returns
 returns c =
     fault-none (kept_of c.args.nodes.now) c.requires c.args.n c.args.depth c.args.is_root c.if-contains.ensures c.if-nodes-gt-MAX_ELEMENTS.false c.if-depth-gt-MAX_DEPTH.false
-        (elim c.else-is_root.branch [ else-is_root-via-then-is_root+else-nodes-gt0 w ↦ inr w.if-nodes-gt0.false | else-is_root-via-else-is_root w ↦ inl w.if-is_root.false ])
+    (elim c.else-is_root.branch [ else-is_root-via-then-is_root+else-nodes-gt0 w ↦ inr w.if-nodes-gt0.false | else-is_root-via-else-is_root w ↦ inl w.if-is_root.false ])
