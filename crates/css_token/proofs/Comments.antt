@@ -45,7 +45,7 @@ unclosed_at (b ∷ inside) rest none =
     let here : unclosed_len (b ∷ inside ++ 42 ∷ 47 ∷ rest) ≡ 1 + unclosed_len (inside ++ 42 ∷ 47 ∷ rest) = cond-false _ 0 _ (not_yet b inside rest none) in
     omega (arith, unclosed_at inside rest (no_end_tail b inside none))
 
--- a comment behind its `/*`
+-- a comment after its `/*`
 pub comment_at : (inside rest : List ℕ) → ((before after : List ℕ) → inside ≢ before ++ 42 ∷ 47 ∷ after) → comment_len (inside ++ 42 ∷ 47 ∷ rest) ≡ length inside + 2
 unfolding comment_len
 comment_at inside rest none =

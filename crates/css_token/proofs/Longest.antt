@@ -119,8 +119,8 @@ dimension_piece at number b bs rest is name =
     let text = number ++ (b ∷ bs ++ rest) in
     let first = unit_first b bs name.0 in
     let len : number_len (number ++ (b ∷ bs ++ rest)) ≡ length number = number_stops number b (bs ++ rest) is first.0 first.1 in
-    let behind : drop (number_len text) text ≡ b ∷ bs ++ rest = drop_at number _ _ (sym len) in
-    let unit : identifier_len (drop (number_len text) text) ≡ identifier_len (b ∷ bs ++ rest) = ap identifier_len behind in
+    let tail : drop (number_len text) text ≡ b ∷ bs ++ rest = drop_at number _ _ (sym len) in
+    let unit : identifier_len (drop (number_len text) text) ≡ identifier_len (b ∷ bs ++ rest) = ap identifier_len tail in
     cond-false (eqb (get_or text (number_len text) 0) 37) _ _ (ap (λ x. eqb x 37) (get_or_at number b (bs ++ rest) 0 _ (sym len)) ∙ first.2)
     ∙ cond-false (eqb (identifier_len (drop (number_len text) text)) 0) _ _ (ne_eqb _ 0 (omega (arith, identifier_reaches (b ∷ bs) rest name)))
     ∙ (λ i. Token (Dimension (at + len i)) (len i + unit i))
@@ -154,10 +154,10 @@ url_reaches at (a ∷ []) before inside after rest word begins all ends comment 
 url_reaches at (a ∷ b ∷ []) before inside after rest word begins all ends comment = absurd (omega (arith, ap length word))
 url_reaches at (a ∷ b ∷ c ∷ d ∷ more) before inside after rest word begins all ends comment = absurd (omega (arith, ap length word))
 url_reaches at (a ∷ b ∷ c ∷ []) before inside after rest word begins all ends comment =
-    let behind = before ++ (inside ++ (after ++ 41 ∷ rest)) in
-    let bs = a ∷ b ∷ c ∷ 40 ∷ behind in
+    let tail = before ++ (inside ++ (after ++ 41 ∷ rest)) in
+    let bs = a ∷ b ∷ c ∷ 40 ∷ tail in
     let len = url_at before inside after rest begins all ends in
-    let url : begins_url bs ≡ true = url_word_begins a b c behind word len.1 in
+    let url : begins_url bs ≡ true = url_word_begins a b c tail word len.1 in
     by_piece _ _ Url _ (at_name at bs comment (url_begins_identifier bs url) ∙ url_named bs url (omega (arith, len.0)))
     (same_kind Url _ _ (omega (arith, len.0)))
 

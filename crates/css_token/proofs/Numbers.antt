@@ -11,7 +11,7 @@ use Rattle.css_token.specs.Characters.{is_sign}
 use Rattle.css_token.specs.Productions.{IsRun, IsUnsigned, IsNumber, begins_identifier}
 use Rattle.css_token.proofs.Names.{begins_with}
 use Rattle.css_token.specs.Fronts.{fraction_len, unsigned_len, number_len}
-use Rattle.css_token.proofs.Runs.{run_reaches, run_stops, behind_run, run_all, no_run, run_sound, first_and_rest, take-one-more}
+use Rattle.css_token.proofs.Runs.{run_reaches, run_stops, after_run, run_all, no_run, run_sound, first_and_rest, take-one-more}
 
 -- a fraction at the front
 fraction_at : (fraction rest : List ℕ) → IsRun is_ascii_digit fraction → fraction_len (46 ∷ fraction ++ rest) ≡ 1 + prefix_len is_ascii_digit (fraction ++ rest)
@@ -24,12 +24,12 @@ no_fraction : (b : ℕ) (rest : List ℕ) → eqb b 46 ≡ false → fraction_le
 unfolding fraction_len
 no_fraction b rest other = cond-false (eqb b 46 && is_ascii_digit (get_or rest 0 0)) _ 0 (and_left _ _ other)
 
--- digits, and what stands behind them
+-- digits, and what stands after them
 unsigned_parts : (whole : List ℕ) (b : ℕ) (rest : List ℕ) → list_all is_ascii_digit whole ≡ true → is_ascii_digit b ≡ false
     → unsigned_len (whole ++ b ∷ rest) ≡ length whole + fraction_len (b ∷ rest)
 unfolding unsigned_len
 unsigned_parts whole b rest all other =
-    λ i. run_stops is_ascii_digit whole b rest all other i + fraction_len (behind_run is_ascii_digit whole b rest all other i)
+    λ i. run_stops is_ascii_digit whole b rest all other i + fraction_len (after_run is_ascii_digit whole b rest all other i)
 
 unsigned_reaches : (bs rest : List ℕ) → IsUnsigned bs → length bs ≤ unsigned_len (bs ++ rest)
 unfolding unsigned_len
@@ -114,9 +114,9 @@ pub unsigned_some : (bs : List ℕ) → IsUnsigned bs → 0 < length bs
 unsigned_some bs (inl run) = run.0
 unsigned_some bs (inr (whole, fraction, all, run, is)) = omega (arith, ap length is, length-append whole (46 ∷ fraction))
 
-unsigned_behind_sign : (b : ℕ) (rest : List ℕ) → is_sign b ≡ true → 0 < number_len (b ∷ rest) → 0 < unsigned_len rest
+unsigned_after_sign : (b : ℕ) (rest : List ℕ) → is_sign b ≡ true → 0 < number_len (b ∷ rest) → 0 < unsigned_len rest
 unfolding number_len
-unsigned_behind_sign b rest sign some = elim (cases_lt 0 (unsigned_len rest)) [
+unsigned_after_sign b rest sign some = elim (cases_lt 0 (unsigned_len rest)) [
   | inl digits ↦ digits
   | inr none ↦ absurd (omega (arith, cond-true (is_sign b) (cond (eqb (unsigned_len rest) 0) 0 (1 + unsigned_len rest)) (unsigned_len (b ∷ rest)) sign, cond-true (eqb (unsigned_len rest) 0) 0 (1 + unsigned_len rest) (eq-eqb _ 0 (omega arith))))
 ]
@@ -168,7 +168,7 @@ number_sound bs some = elim (cases_Bool (is_sign (get_or bs 0 0))) [
       let sign = get_or bs 0 0 in
       let there : 0 < sign = sign_there sign signed in
       let parts : bs ≡ sign ∷ drop 1 bs = first_and_rest bs sign refl there in
-      let digits : 0 < unsigned_len (drop 1 bs) = unsigned_behind_sign sign (drop 1 bs) signed (omega (arith, ap number_len parts)) in
+      let digits : 0 < unsigned_len (drop 1 bs) = unsigned_after_sign sign (drop 1 bs) signed (omega (arith, ap number_len parts)) in
       let len : number_len bs ≡ 1 + unsigned_len (drop 1 bs) = ap number_len parts ∙ number_signed sign (drop 1 bs) signed digits in
       let text : take (number_len bs) bs ≡ sign ∷ take (unsigned_len (drop 1 bs)) (drop 1 bs) =
       (λ i. take (len i) (parts i)) ∙ take-one-more sign _ (drop 1 bs) in
@@ -231,7 +231,7 @@ number_within bs = elim (cases_lt 0 (number_len bs)) [
     | inl signed ↦
         let there = sign_there (get_or bs 0 0) signed in
         let parts : bs ≡ get_or bs 0 0 ∷ drop 1 bs = first_and_rest bs (get_or bs 0 0) refl there in
-        let digits = unsigned_behind_sign (get_or bs 0 0) (drop 1 bs) signed (omega (arith, ap number_len parts)) in
+        let digits = unsigned_after_sign (get_or bs 0 0) (drop 1 bs) signed (omega (arith, ap number_len parts)) in
         omega (arith, ap number_len parts, ap length parts, number_signed (get_or bs 0 0) (drop 1 bs) signed digits, unsigned_within (drop 1 bs))
   ]
 ]

@@ -12,7 +12,7 @@ use Rattle.css_token.specs.declared.pieces.Piece.{Piece}
 use Rattle.css_token.specs.declared.pieces.Piece.TheVariants.{Token as Whole, Comment, Bad}
 use Rattle.css_token.proofs.Lists.{took_comment, took_token, stopped_at, all_read, tokens_are_one, not_both, bad_is_one}
 
--- what is read behind these tokens is right
+-- what is read after these tokens is right
 abbrev IsRight : List ℕ → List Token → Result (List Token) ℕ → Type 0
 IsRight text before (Ok tokens) = AreTokens text (before ++ tokens)
 IsRight text before (Err at) = IsFirstBad text at
@@ -25,16 +25,16 @@ nothing_left : (text rest : List ℕ) (before : List Token) (at : ℕ) → rest 
 nothing_left text rest before at left reads none =
     subst (AreTokens text) (sym (append-nil before)) (all_read text text before at refl reads (omega (arith, ap length left, length-drop at text)))
 
--- a piece, and what is read behind it
-right_piece : (text rest : List ℕ) (before : List Token) (at : ℕ) (piece : Piece) (behind : ℕ → Result (List Token) ℕ) → rest ≡ drop at text → Reads text before at → 0 < length rest → piece ≡ piece_at at rest
-    → ((tokens : List Token) (len : ℕ) → 0 < len → Reads text tokens (at + len) → IsRight text tokens (behind len)) → IsRight text before (tokens_at_piece at piece behind)
-right_piece text rest before at (Whole kind len) behind left reads more is next =
+-- a piece, and what is read after it
+right_piece : (text rest : List ℕ) (before : List Token) (at : ℕ) (piece : Piece) (tail : ℕ → Result (List Token) ℕ) → rest ≡ drop at text → Reads text before at → 0 < length rest → piece ≡ piece_at at rest
+    → ((tokens : List Token) (len : ℕ) → 0 < len → Reads text tokens (at + len) → IsRight text tokens (tail len)) → IsRight text before (tokens_at_piece at piece tail)
+right_piece text rest before at (Whole kind len) tail left reads more is next =
     let took = took_token text text rest before at kind len refl left reads is in
-    right_with text before (token kind at (at + len)) (behind len) (next (before ++ token kind at (at + len) ∷ []) len took.1 took.0)
-right_piece text rest before at (Comment len) behind left reads more is next =
+    right_with text before (token kind at (at + len)) (tail len) (next (before ++ token kind at (at + len) ∷ []) len took.1 took.0)
+right_piece text rest before at (Comment len) tail left reads more is next =
     let took = took_comment text text rest before at len refl left reads is in
     next before len took.1 took.0
-right_piece text rest before at Bad behind left reads more is next =
+right_piece text rest before at Bad tail left reads more is next =
     stopped_at text text rest before at refl left reads (omega (arith, ap length left, length-drop at text)) is
 
 right_from : (most : ℕ) (text rest : List ℕ) (before : List Token) (at : ℕ) → rest ≡ drop at text → Reads text before at → length rest ≤ most → IsRight text before (tokens_from most at rest)

@@ -48,9 +48,9 @@ run_all p (x ∷ xs) = elim (cases_Bool (p x)) [
       subst (λ n. list_all p (take n (x ∷ xs)) ≡ true) (sym here) refl
 ]
 
--- what stands behind a run that ends there
-pub behind_run : (p : ℕ → Bool) (xs : List ℕ) (y : ℕ) (ys : List ℕ) → list_all p xs ≡ true → p y ≡ false → drop (prefix_len p (xs ++ y ∷ ys)) (xs ++ y ∷ ys) ≡ y ∷ ys
-behind_run p xs y ys all stops = drop_at xs (y ∷ ys) _ (sym (run_stops p xs y ys all stops))
+-- what stands after a run that ends there
+pub after_run : (p : ℕ → Bool) (xs : List ℕ) (y : ℕ) (ys : List ℕ) → list_all p xs ≡ true → p y ≡ false → drop (prefix_len p (xs ++ y ∷ ys)) (xs ++ y ∷ ys) ≡ y ∷ ys
+after_run p xs y ys all stops = drop_at xs (y ∷ ys) _ (sym (run_stops p xs y ys all stops))
 
 -- a class that has none of the bytes of another
 pub apart_from : (p q : ℕ → Bool) (b : ℕ) → (q b ≡ true → p b ≡ false) → p b ≡ true → q b ≡ false
@@ -60,7 +60,7 @@ apart_from p q b apart passes = elim (cases_Bool (q b)) [ inl is ↦ absurd (fal
 pub run_sound : (p : ℕ → Bool) (xs : List ℕ) → p 0 ≡ false → p (get_or xs 0 0) ≡ true → IsRun p (take (prefix_len p xs) xs)
 run_sound p xs none begins = (omega (arith, length-prefix_len p xs, some_run p xs none begins), run_all p xs)
 
--- a byte that is there, and what stands behind it
+-- a byte that is there, and what stands after it
 pub first_and_rest : (xs : List ℕ) (b : ℕ) → get_or xs 0 0 ≡ b → 0 < b → xs ≡ b ∷ drop 1 xs
 first_and_rest [] b first some = absurd (omega arith)
 first_and_rest (x ∷ xs) b first some = ap (λ y. y ∷ xs) first

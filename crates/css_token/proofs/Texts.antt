@@ -12,7 +12,7 @@ use Rattle.std.proofs.Math.Seq.{take-add}
 use Rattle.css_token.specs.Characters.{is_name_start, is_quote, is_text, is_url}
 use Rattle.css_token.specs.Productions.{IsText, IsUrl, is_quoted, begins_url, begins_identifier}
 use Rattle.css_token.specs.Fronts.{text_len, url_rest_len, url_len}
-use Rattle.css_token.proofs.Runs.{run_stops, behind_run, run_all, apart_from, byte_within, take_with_byte, take-one-more}
+use Rattle.css_token.proofs.Runs.{run_stops, after_run, run_all, apart_from, byte_within, take_with_byte, take-one-more}
 
 pub quote_there : (quote : ℕ) → is_quote quote ≡ true → 0 < quote
 quote_there quote is = grind arith
@@ -20,7 +20,7 @@ quote_there quote is = grind arith
 quote_ends : (quote : ℕ) → is_text quote quote ≡ false
 quote_ends quote = ap (λ b. not b && not (eqb quote 92) && (not (is_ascii_control quote) || eqb quote 9)) (eq-eqb quote quote refl)
 
--- a text behind its first quote
+-- a text after its first quote
 pub text_at : (quote : ℕ) (inside rest : List ℕ) → list_all (is_text quote) inside ≡ true → text_len quote (inside ++ quote ∷ rest) ≡ length inside + 1
 unfolding text_len
 text_at quote inside rest all =
@@ -52,7 +52,7 @@ text_sound quote bs is some =
     ∙ ap (λ l. quote ∷ l) (ap (λ n. take n bs) (text_len_is quote bs some) ∙ take_with_byte bs _ quote (text_closes quote bs some) (quote_there quote is)) in
     (quote, inside, is, run_all (is_text quote) bs, text)
 
--- a url behind the spaces that follow `url(`
+-- a url after the spaces that follow `url(`
 no_url_space : (b : ℕ) → is_ascii_whitespace b ≡ true → is_url b ≡ false
 no_url_space b is = grind arith
 
@@ -64,10 +64,10 @@ no_quote_url b is = grind arith
 
 inside_url : (inside after rest : List ℕ) → list_all is_url inside ≡ true → list_all is_ascii_whitespace after ≡ true
     → (prefix_len is_url (inside ++ (after ++ 41 ∷ rest)) ≡ length inside) × (drop (prefix_len is_url (inside ++ (after ++ 41 ∷ rest))) (inside ++ (after ++ 41 ∷ rest)) ≡ after ++ 41 ∷ rest)
-inside_url inside [] rest all spaces = (run_stops is_url inside 41 rest all refl, behind_run is_url inside 41 rest all refl)
+inside_url inside [] rest all spaces = (run_stops is_url inside 41 rest all refl, after_run is_url inside 41 rest all refl)
 inside_url inside (s ∷ after) rest all spaces =
     let other = no_url_space s (and_parts (is_ascii_whitespace s) (list_all is_ascii_whitespace after) spaces).0 in
-    (run_stops is_url inside s (after ++ 41 ∷ rest) all other, behind_run is_url inside s (after ++ 41 ∷ rest) all other)
+    (run_stops is_url inside s (after ++ 41 ∷ rest) all other, after_run is_url inside s (after ++ 41 ∷ rest) all other)
 
 url_rest_at : (inside after rest : List ℕ) → list_all is_url inside ≡ true → list_all is_ascii_whitespace after ≡ true
     → url_rest_len (inside ++ (after ++ 41 ∷ rest)) ≡ length inside + length after + 1
@@ -89,19 +89,19 @@ url_rest_at inside after rest all spaces =
 url_from : (bs inside after rest : List ℕ) (spaces : ℕ) → prefix_len is_ascii_whitespace bs ≡ spaces → drop spaces bs ≡ inside ++ (after ++ 41 ∷ rest)
     → list_all is_url inside ≡ true → list_all is_ascii_whitespace after ≡ true → url_len bs ≡ spaces + (length inside + length after + 1)
 unfolding url_len
-url_from bs inside after rest spaces run behind all ends =
+url_from bs inside after rest spaces run tail all ends =
     let len : url_rest_len (drop (prefix_len is_ascii_whitespace bs) bs) ≡ length inside + length after + 1 =
-    ap (λ n. url_rest_len (drop n bs)) run ∙ ap url_rest_len behind ∙ url_rest_at inside after rest all ends in
+    ap (λ n. url_rest_len (drop n bs)) run ∙ ap url_rest_len tail ∙ url_rest_at inside after rest all ends in
     cond-false (eqb (url_rest_len (drop (prefix_len is_ascii_whitespace bs) bs)) 0) 0 _ (ne_eqb _ 0 (omega arith))
     ∙ (λ i. run i + len i)
 
--- and the byte behind those spaces is no quote
+-- and the byte after those spaces is no quote
 unquoted : (bs rest : List ℕ) (spaces b : ℕ) → prefix_len is_ascii_whitespace bs ≡ spaces → drop spaces bs ≡ b ∷ rest → is_quote b ≡ false → is_quoted bs ≡ false
-unquoted bs rest spaces b run behind other =
+unquoted bs rest spaces b run tail other =
     ap (λ n. is_quote (get_or bs n 0)) run
-    ∙ ap is_quote (sym (get_or-drop spaces bs 0 0 ∙ ap (λ n. get_or bs n 0) (add-zero spaces)) ∙ ap (λ l. get_or l 0 0) behind) ∙ other
+    ∙ ap is_quote (sym (get_or-drop spaces bs 0 0 ∙ ap (λ n. get_or bs n 0) (add-zero spaces)) ∙ ap (λ l. get_or l 0 0) tail) ∙ other
 
--- a url behind its `url(`
+-- a url after its `url(`
 pub url_at : (before inside after rest : List ℕ) → list_all is_ascii_whitespace before ≡ true → list_all is_url inside ≡ true → list_all is_ascii_whitespace after ≡ true
     → (url_len (before ++ (inside ++ (after ++ 41 ∷ rest))) ≡ length before + (length inside + length after + 1)) × (is_quoted (before ++ (inside ++ (after ++ 41 ∷ rest))) ≡ false)
 url_at before [] after rest begins all ends =
@@ -109,16 +109,16 @@ url_at before [] after rest begins all ends =
     let grouped : before ++ (after ++ 41 ∷ rest) ≡ (before ++ after) ++ 41 ∷ rest = sym (append_assoc before after (41 ∷ rest)) in
     let run : prefix_len is_ascii_whitespace (before ++ (after ++ 41 ∷ rest)) ≡ length (before ++ after) =
     ap (prefix_len is_ascii_whitespace) grouped ∙ run_stops is_ascii_whitespace (before ++ after) 41 rest spaces refl in
-    let behind : drop (length (before ++ after)) (before ++ (after ++ 41 ∷ rest)) ≡ 41 ∷ rest =
+    let tail : drop (length (before ++ after)) (before ++ (after ++ 41 ∷ rest)) ≡ 41 ∷ rest =
     ap (drop (length (before ++ after))) grouped ∙ drop_at (before ++ after) (41 ∷ rest) _ refl in (
-      omega (arith, url_from _ [] [] rest _ run behind refl refl, length-append before after),
-      unquoted _ rest _ 41 run behind refl,
+      omega (arith, url_from _ [] [] rest _ run tail refl refl, length-append before after),
+      unquoted _ rest _ 41 run tail refl,
     )
 url_at before (u ∷ inside) after rest begins all ends =
     let first : is_url u ≡ true = (and_parts (is_url u) (list_all is_url inside) all).0 in
     let run = run_stops is_ascii_whitespace before u (inside ++ (after ++ 41 ∷ rest)) begins (no_space_url u first) in
-    let behind : drop (length before) (before ++ u ∷ (inside ++ (after ++ 41 ∷ rest))) ≡ u ∷ (inside ++ (after ++ 41 ∷ rest)) = drop_at before _ _ refl in
-    (url_from _ (u ∷ inside) after rest _ run behind all ends, unquoted _ _ _ u run behind (no_quote_url u first))
+    let tail : drop (length before) (before ++ u ∷ (inside ++ (after ++ 41 ∷ rest))) ≡ u ∷ (inside ++ (after ++ 41 ∷ rest)) = drop_at before _ _ refl in
+    (url_from _ (u ∷ inside) after rest _ run tail all ends, unquoted _ _ _ u run tail (no_quote_url u first))
 
 -- the bracket that closes a url
 url_rest_closes : (bs : List ℕ) → 0 < url_rest_len bs
@@ -211,10 +211,10 @@ url_front a b c rest word some =
     let spaces = prefix_len is_ascii_whitespace rest in
     let inner = url_rest_sound (drop spaces rest) is.0 in
     let four : 4 + url_len rest ≡ 1 + (1 + (1 + (1 + url_len rest))) = omega arith in
-    let behind : take (url_len rest) rest ≡ take spaces rest ++ (inner.0 ++ (inner.1 ++ 41 ∷ [])) =
+    let tail : take (url_len rest) rest ≡ take spaces rest ++ (inner.0 ++ (inner.1 ++ 41 ∷ [])) =
     ap (λ n. take n rest) is.1 ∙ take-add spaces _ rest ∙ ap (λ l. take spaces rest ++ l) inner.4 in
     let text : take (4 + url_len rest) (a ∷ b ∷ c ∷ 40 ∷ rest) ≡ a ∷ b ∷ c ∷ 40 ∷ (take spaces rest ++ (inner.0 ++ (inner.1 ++ 41 ∷ []))) =
-    ap (λ n. take n (a ∷ b ∷ c ∷ 40 ∷ rest)) four ∙ take-one-more a _ _ ∙ ap (λ l. a ∷ l) (take-one-more b _ _ ∙ ap (λ l. b ∷ l) (take-one-more c _ _ ∙ ap (λ l. c ∷ l) (take-one-more 40 _ rest ∙ ap (λ l. 40 ∷ l) behind))) in
+    ap (λ n. take n (a ∷ b ∷ c ∷ 40 ∷ rest)) four ∙ take-one-more a _ _ ∙ ap (λ l. a ∷ l) (take-one-more b _ _ ∙ ap (λ l. b ∷ l) (take-one-more c _ _ ∙ ap (λ l. c ∷ l) (take-one-more 40 _ rest ∙ ap (λ l. 40 ∷ l) tail))) in
     let grouped : take spaces rest ++ inner.0 ++ inner.1 ++ 41 ∷ [] ≡ take spaces rest ++ (inner.0 ++ (inner.1 ++ 41 ∷ [])) = simp append_assoc in (
       omega (arith, url_within rest some),
       (

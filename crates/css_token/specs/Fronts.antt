@@ -14,7 +14,7 @@ use Rattle.css_token.specs.declared.pieces.Piece.TheVariants.{Token, Comment, Ba
 unfoldable pub identifier_len : List ℕ → ℕ
 identifier_len bs = if begins_identifier bs then prefix_len is_name bs else 0
 
--- the length of a point and the digits behind it
+-- the length of a point and the digits after it
 unfoldable pub fraction_len : List ℕ → ℕ
 fraction_len bs =
     if slice_index bs 0 == 46 && is_ascii_digit (slice_index bs 1) then 1 + prefix_len is_ascii_digit (drop 1 bs)
@@ -30,20 +30,20 @@ number_len bs =
     if is_sign (slice_index bs 0) then (if unsigned_len (drop 1 bs) == 0 then 0 else 1 + unsigned_len (drop 1 bs))
     else unsigned_len bs
 
--- the length of a text behind its first quote, with the last one (4.3.5)
+-- the length of a text after its first quote, with the last one (4.3.5)
 unfoldable pub text_len : ℕ → List ℕ → ℕ
 text_len quote bs =
     let inside = prefix_len (is_text quote) bs in
     if slice_index bs inside == quote then inside + 1 else 0
 
--- the length of a url behind the spaces that follow `url(`, with its `)` (4.3.6)
+-- the length of a url after the spaces that follow `url(`, with its `)` (4.3.6)
 unfoldable pub url_rest_len : List ℕ → ℕ
 url_rest_len bs =
     let inside = prefix_len is_url bs in
     let spaces = prefix_len is_ascii_whitespace (drop inside bs) in
     if slice_index bs (inside + spaces) == 41 then inside + spaces + 1 else 0
 
--- the length of a url behind `url(`
+-- the length of a url after `url(`
 unfoldable pub url_len : List ℕ → ℕ
 url_len bs =
     let spaces = prefix_len is_ascii_whitespace bs in
@@ -54,11 +54,11 @@ abbrev pub unclosed_len : List ℕ → ℕ
 unclosed_len [] = 0
 unclosed_len (b ∷ bs) = if b == 42 && slice_index bs 0 == 47 then 0 else 1 + unclosed_len bs
 
--- the length of a comment behind its `/*`, with its `*/` (4.3.2)
+-- the length of a comment after its `/*`, with its `*/` (4.3.2)
 unfoldable pub comment_len : List ℕ → ℕ
 comment_len bs = if nat_lt (unclosed_len bs) (length bs) then unclosed_len bs + 2 else 0
 
--- a token whose rest behind its opening has this length, or a bad one where that is 0
+-- a token whose rest after its opening has this length, or a bad one where that is 0
 unfoldable pub closed_piece : Kind → ℕ → ℕ → Piece
 closed_piece kind opening len = if len == 0 then Bad else Token kind (opening + len)
 

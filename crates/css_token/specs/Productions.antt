@@ -20,7 +20,7 @@ IsRun p bs = (0 < length bs) × IsTrue (list_all p bs)
 abbrev pub IsIdentifier : List ℕ → Type 0
 IsIdentifier bs = IsTrue (begins_identifier bs) × IsTrue (list_all is_name bs)
 
--- digits, or a point with digits behind it, and digits or nothing before it
+-- digits, or a point with digits after it, and digits or nothing before it
 abbrev pub IsUnsigned : List ℕ → Type 0
 IsUnsigned bs = IsRun is_ascii_digit bs
     ⊎ ((whole fraction : List ℕ) × IsTrue (list_all is_ascii_digit whole) × IsRun is_ascii_digit fraction
@@ -76,11 +76,11 @@ IsComment bs = (inside : List ℕ) × (bs ≡ 47 ∷ 42 ∷ inside ++ 42 ∷ 47 
 abbrev pub begins_comment : List ℕ → Bool
 begins_comment bs = slice_index bs 0 == 47 && slice_index bs 1 == 42
 
--- whether the byte behind the spaces is a quote
+-- whether the byte after the spaces is a quote
 abbrev pub is_quoted : List ℕ → Bool
 is_quoted bs = is_quote (slice_index bs (prefix_len is_ascii_whitespace bs))
 
--- whether a url begins, and no function of that name: `url(` in any case, and no quote behind it, with or without
+-- whether a url begins, and no function of that name: `url(` in any case, and no quote after it, with or without
 -- spaces between (section 4.3.4)
 abbrev pub begins_url : List ℕ → Bool
 begins_url bs = to_ascii_lowercase (slice_index bs 0) == 117 && to_ascii_lowercase (slice_index bs 1) == 114

@@ -15,11 +15,11 @@ abbrev pub with_token : Token → Result (List Token) ℕ → Result (List Token
 with_token t (Ok tokens) = Ok (t ∷ tokens)
 with_token t (Err at) = Err at
 
--- what a piece at `at` adds to what is read behind it
+-- what a piece at `at` adds to what is read after it
 abbrev pub tokens_at_piece : ℕ → Piece → (ℕ → Result (List Token) ℕ) → Result (List Token) ℕ
-tokens_at_piece at (Whole kind len) behind = with_token (token kind at (at + len)) (behind len)
-tokens_at_piece at (Comment len) behind = behind len
-tokens_at_piece at Bad behind = Err at
+tokens_at_piece at (Whole kind len) tail = with_token (token kind at (at + len)) (tail len)
+tokens_at_piece at (Comment len) tail = tail len
+tokens_at_piece at Bad tail = Err at
 
 -- the tokens of a text that begins at `at`, or where its first bad one begins: at most so many pieces
 abbrev pub tokens_from : ℕ → ℕ → List ℕ → Result (List Token) ℕ

@@ -31,7 +31,7 @@ pub record IsBad (at : ℕ) (text : List ℕ) : Type 0 where
 abbrev pub token : Kind → ℕ → ℕ → Token
 token kind from to = record { kind = kind; from = from; to = to }
 
--- the text up to `at` is these tokens, with comments before, between and behind them
+-- the text up to `at` is these tokens, with comments before, between and after them
 pub data Reads (text : List ℕ) : List Token → ℕ → Type 0 where
   start : Reads text [] 0
   past_comment : {tokens : List Token} {at : ℕ} (len : ℕ) → Reads text tokens at

@@ -154,7 +154,7 @@ pub(crate) fn begins_comment(bytes: &[u8]) -> bool
     byte_at(bytes, 0) == b'/' && byte_at(bytes, 1) == b'*'
 }
 
-/// Whether the byte behind the spaces is a quote.
+/// Whether the byte after the spaces is a quote.
 fn is_quoted(bytes: &[u8]) -> bool
     ensures { result ≡ is_quoted bytes.now }
 {

@@ -17,7 +17,7 @@ pub(crate) enum Piece {
     Bad,
 }
 
-/// A token whose rest behind its opening has this length, or a bad one where that is 0.
+/// A token whose rest after its opening has this length, or a bad one where that is 0.
 #[tactic(auto, unfolding(crate::specs::Fronts::closed_piece))]
 fn closed_piece(kind: Kind, opening: usize, len: usize) -> Piece
     requires { opening + len < 2 ^ 64 }

@@ -53,7 +53,7 @@ pub struct Token {
     pub kind: Kind,
     /// The index of its first byte.
     pub from: u32,
-    /// The index behind its last byte.
+    /// The index after its last byte.
     pub to: u32,
 }
 

@@ -32,7 +32,7 @@ range_grown old new given a b n low high e =
     ∙ drop-append-le a (take b old) given (omega arith)
     ∙ ap (λ (xs : List ℕ). xs ++ given) (sym (between_is old a b))
 
--- after a write behind the first a of the bytes
+-- after a write after the first a of the bytes
 pub take_written : (xs ys rest : List ℕ) (a n : ℕ) → a ≤ length xs → n ≤ length ys → take (a + n) (take a xs ++ (ys ++ rest)) ≡ take a xs ++ take n ys
 take_written xs ys rest a n low high =
     let front = length-take-le a xs low in
@@ -64,10 +64,10 @@ found_none xs from within clear none =
     All-same NotFeed xs (take from xs ++ ys) (sym (take-append-drop from xs)) (All-append NotFeed (take from xs) ys clear
     (All-from_get_or NotFeed ys 0 (λ i lt. λ e. none i zero-le lt (eq-eqb _ 10 e))))
 
--- what a read gave to the part of a buffer behind its first bytes
-pub read_behind : {E : Type 0} (r : Result ℕ E) (before now : Option (List ℕ)) (buf old rest : List ℕ) (from : ℕ) → from ≤ length old
+-- what a read gave to the part of a buffer after its first bytes
+pub read_after : {E : Type 0} (r : Result ℕ E) (before now : Option (List ℕ)) (buf old rest : List ℕ) (from : ℕ) → from ≤ length old
     → ReadsAtMost r buf → ReadConsumes before now r buf
     → IfOk r (λ n. (given : List ℕ) × (length given ≡ n) × (take (from + n) (take from old ++ (buf ++ rest)) ≡ take from old ++ given) × Consumes before now given)
-read_behind (Ok n) before now buf old rest from low bound bytes =
+read_after (Ok n) before now buf old rest from low bound bytes =
     (take n buf, sym bound.1, take_written old buf rest from n low bound.0, bytes.0)
-read_behind (Err e) before now buf old rest from low bound bytes = tt
+read_after (Err e) before now buf old rest from low bound bytes = tt

@@ -12,8 +12,8 @@ abbrev pub failed_reads : {I : Type 0} → StdSource I → ℕ
 failed_reads source = source.failures
 
 -- the writer that a sink stands over
-abbrev pub output_of : {O : Type 0} → StdSink O → O
-output_of sink = sink.output
+abbrev pub writer_of : {O : Type 0} → StdSink O → O
+writer_of sink = sink.output
 
 -- how many writes failed
 abbrev pub failed_writes : {O : Type 0} → StdSink O → ℕ

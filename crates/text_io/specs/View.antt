@@ -19,7 +19,7 @@ text_in bytes (Lent span) = Some (slice_range bytes span.from span.to)
 text_in bytes (Failed fault) = None
 
 -- a reader that met no fault took no more than the limit, and what it lends stands in its buffer and is within a line's limit
-abbrev pub IsSound : ℕ → State → Type 0
-IsSound taken Ready = taken ≤ MAX_INPUT
-IsSound taken (Lent span) = (taken ≤ MAX_INPUT) × (span.from ≤ span.to) × (span.to ≤ CAPACITY) × (span.to ≤ span.from + MAX_LINE)
-IsSound taken (Failed fault) = ⊤
+abbrev pub IsReaderState : ℕ → State → Type 0
+IsReaderState taken Ready = taken ≤ MAX_INPUT
+IsReaderState taken (Lent span) = (taken ≤ MAX_INPUT) × (span.from ≤ span.to) × (span.to ≤ CAPACITY) × (span.to ≤ span.from + MAX_LINE)
+IsReaderState taken (Failed fault) = ⊤

@@ -47,7 +47,7 @@ impl Model for Lines {
     ghost Value = { Reader };
 
     ghost use Rattle.text_io.specs.Buffer.{pending_of};
-    ghost use Rattle.text_io.specs.View.{fault_of, text_in, IsSound};
+    ghost use Rattle.text_io.specs.View.{fault_of, text_in, IsReaderState};
 
     ghost view = { λ lines. record {
       pending = pending_of lines.buffer;
@@ -56,7 +56,7 @@ impl Model for Lines {
       text = text_in lines.buffer.bytes.items lines.state;
     } };
 
-    ghost invariant = { λ lines. IsSound lines.buffer.taken lines.state };
+    ghost invariant = { λ lines. IsReaderState lines.buffer.taken lines.state };
 }
 
 impl Lines {

@@ -4,7 +4,7 @@ ghost use Rattle.std.specs.Io.{WritesAtMost};
 ghost use Rattle.std.specs.Io.KnownBytes.{WriteAppends};
 ghost use Rattle.text_io.specs.Causes.{HasCause, HasEmptyCause};
 ghost use Rattle.text_io.specs.Memory.{empties_after};
-ghost use Rattle.text_io.specs.Std.{output_of, failed_writes, empty_writes_of};
+ghost use Rattle.text_io.specs.Std.{writer_of, failed_writes, empty_writes_of};
 
 use crate::fault::Failed;
 use crate::sink::Sink;
@@ -21,7 +21,7 @@ pub struct StdSink<O> {
 impl<O: Write> StdSink<O> {
     /// A sink over this writer, with no failures and no empty writes yet.
     pub fn new(output: O) -> StdSink<O>
-        ensures output { output_of result ≡ output }
+        ensures output { writer_of result ≡ output }
         ensures faults { failed_writes result ≡ 0 }
         ensures empty_writes { empty_writes_of result ≡ 0 }
     {
@@ -35,10 +35,10 @@ impl<O: Write> StdSink<O> {
     fn pass_on(&mut self, bytes: &[u8]) -> Result<usize, Failed>
         ensures bound { WritesAtMost result bytes.now }
         ensures passed { failed_writes self.old < 2 ^ 64 - 1 →
-            WriteAppends (O.contents (output_of self.old)) (O.contents (output_of self.new)) result bytes.now }
+            WriteAppends (O.contents (writer_of self.old)) (O.contents (writer_of self.new)) result bytes.now }
         ensures counted { OnErr result (failed_writes self.new ≡ failed_writes self.old + 1) }
         ensures uncounted { OnOk result (failed_writes self.new ≡ failed_writes self.old) }
-        ensures full { failed_writes self.old ≡ 2 ^ 64 - 1 → (result ≡ Ok 0) × (output_of self.new ≡ output_of self.old) }
+        ensures full { failed_writes self.old ≡ 2 ^ 64 - 1 → (result ≡ Ok 0) × (writer_of self.new ≡ writer_of self.old) }
         ensures empty_writes { empty_writes_of self.new ≡ empty_writes_of self.old }
     {
         if self.failures == u64::MAX {
@@ -70,14 +70,14 @@ impl<O: Write> Sink for StdSink<O> {
 
         // What comes is passed on.
         ensures passed { failed_writes self.old < 2 ^ 64 - 1 →
-            WriteAppends (O.contents (output_of self.old)) (O.contents (output_of self.new)) result bytes.now }
+            WriteAppends (O.contents (writer_of self.old)) (O.contents (writer_of self.new)) result bytes.now }
 
         // Each failure and each empty write is counted, and nothing else is.
         ensures counted { OnErr result ((failed_writes self.new ≡ failed_writes self.old + 1)
             × (empty_writes_of self.new ≡ empty_writes_of self.old)) }
         ensures uncounted { IfOk result (λ n. (failed_writes self.new ≡ failed_writes self.old)
             × (empty_writes_of self.new ≡ empties_after (empty_writes_of self.old) n (length bytes.now))) }
-        ensures full { failed_writes self.old ≡ 2 ^ 64 - 1 → (result ≡ Ok 0) × (output_of self.new ≡ output_of self.old) }
+        ensures full { failed_writes self.old ≡ 2 ^ 64 - 1 → (result ≡ Ok 0) × (writer_of self.new ≡ writer_of self.old) }
     {
         let Ok(count) = self.pass_on(bytes) else {
             return Err(Failed);
