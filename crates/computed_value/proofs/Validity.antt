@@ -1,5 +1,5 @@
 -- Computed values are valid.
-use Rattle.std.proofs.Common.{subst, ◌≡◌, ◌^◌, ◌≤◌, refl, arith, true, false, IsTrue}
+use Rattle.std.proofs.Common.{subst, ◌≡◌, ◌≤◌, refl, arith, true, false, IsTrue}
 use Rattle.std.specs.Prelude.{if◌then◌else◌, ℤ, pos, negsuc, neg_ℤ, ◌*ℤ◌, ◌≤ℤ◌, unsigned_abs, ⊤}
 use Rattle.std.proofs.lemmas.Int.{ints, clamps}
 use Rattle.fix_num.specs.Clamping.{clamped_number}

@@ -1,6 +1,5 @@
 -- The easing that the reader finds is what the parts spell.
-use Rattle.std.proofs.Common.{◌≡◌, ℕ, ◌≤◌, nat_le, refl, arith, ap, sym, subst, ◌∙◌, List, ◌∷◌, [], cond, Bool, true, false, Option, Some, None, Ok, Err, ℤ, pos, negsuc, unsigned_abs, inl, inr, ◌⊎◌, codes, not, ◌==◌}
-use Rattle.std.specs.List.{list_all}
+use Rattle.std.proofs.Common.{◌≡◌, ℕ, ◌≤◌, nat_le, refl, arith, ap, sym, subst, ◌∙◌, List, ◌∷◌, [], cond, Bool, true, false, Option, Some, None, Ok, Err, ℤ, pos, negsuc, unsigned_abs, inl, inr, ◌⊎◌, codes}
 use Rattle.std.proofs.lemmas.Bool.{and_parts}
 use Rattle.std.proofs.lemmas.Bool.Decides.{nat_tests}
 use Rattle.std.proofs.lemmas.Int.{ints}

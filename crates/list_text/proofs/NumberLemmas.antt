@@ -1,14 +1,12 @@
 -- What a clamped number says of the number that the text stands for.
-use Rattle.std.proofs.Common.{◌≡◌, ℕ, ◌+◌, ◌^◌, ◌<◌, ◌≤◌, nat_le, refl, arith, ap, subst, sym, ◌∙◌, List, length, drop, cond, ◌==◌, Bool, true, false, Option, Some, None, Ok, Err, ℤ, pos, negsuc, unsigned_abs}
-use Rattle.std.specs.Prelude.{neg_ℤ, option_map, slice_index}
+use Rattle.std.proofs.Common.{◌≡◌, ℕ, ◌+◌, ◌^◌, ◌<◌, ◌≤◌, nat_le, refl, arith, ap, subst, sym, ◌∙◌, List, length, ◌==◌, true, false, Option, Some, None, Ok, Err, ℤ, pos, unsigned_abs}
+use Rattle.std.specs.Prelude.{option_map, slice_index}
 use Rattle.std.proofs.lemmas.Bool.Decides.{nat_tests}
 use Rattle.std.proofs.lemmas.Int.{ints, fits_signed_from_abs, to_z-of_z}
 use Rattle.std.specs.Int.{w32, w64, cast_signed, cast_unsigned}
 use mir.Val.{SFits}
-use Rattle.std.proofs.Math.Nat.{mul-le-mul_right}
 use Rattle.fix_num.specs.Decimal.{Decimal, IsDecimal, decimal_of, is_minus, signed_number}
 use Rattle.fix_num.specs.Rounded.{StandsNear, rounded_reading_of, rounded_units}
-use Rattle.fix_num.specs.Rounding.{IsNearest}
 use Rattle.fix_num.specs.declared.decimal.NumFault.TheVariants.{Syntax, TooFine, TooLarge}
 use Rattle.fix_num.proofs.PrintLemmas.{power_positive}
 use Rattle.fix_num.proofs.RoundedReadingLemmas.{far_told, near_told, none_told, never_fine}

@@ -1,5 +1,5 @@
 -- The spellings of timing lists (CSS Transitions 1, "Transitions"; CSS Animations 1, "Declaring Animations").
-use Rattle.std.specs.Prelude.{◌≡◌, ℕ, ◌<◌, ◌≤◌, ℤ, pos, ◌≤ℤ◌, Bool, ◌||◌, if◌then◌else◌, List, [], ◌∷◌, ◌++◌, length, codes, IsTrue, Option, None, Some, Result, Ok, Err, ⊤}
+use Rattle.std.specs.Prelude.{◌≡◌, ℕ, ◌<◌, ◌≤◌, ℤ, pos, ◌≤ℤ◌, ◌||◌, if◌then◌else◌, List, [], ◌∷◌, ◌++◌, length, codes, IsTrue, Option, None, Some, Result, Ok, Err, ⊤}
 use Rattle.fix_num.specs.Rounded.{StandsNear}
 use Rattle.fix_num.specs.declared.units.Micros.{Micros}
 use Rattle.token_parts.specs.Keywords.{is_keyword, look_up}

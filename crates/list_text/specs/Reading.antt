@@ -1,6 +1,5 @@
 -- The spellings as functions of the parts. The way in which numbers are read is an argument: `nearest`, or `clamped`.
-use Rattle.std.specs.Prelude.{ℕ, ◌==◌, ℤ, pos, Bool, true, false, ◌&&◌, not, nat_le, if◌then◌else◌, unsigned_abs, List, [], ◌∷◌, codes, Option, None, Some}
-use Rattle.std.specs.List.{list_all}
+use Rattle.std.specs.Prelude.{ℕ, ℤ, pos, Bool, true, false, ◌&&◌, nat_le, if◌then◌else◌, unsigned_abs, List, [], ◌∷◌, codes, Option, None, Some}
 use Rattle.fix_num.specs.Integer.{has_no_point}
 use Rattle.token_parts.specs.Keywords.{is_keyword, look_up}
 use Rattle.token_parts.specs.Steps.{◌>>=◌, after_comma}

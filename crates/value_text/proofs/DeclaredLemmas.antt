@@ -1,5 +1,5 @@
 -- A value that is spelled within its limits is a declared value of the property.
-use Rattle.std.proofs.Common.{◌≡◌, ℕ, ◌^◌, ◌<◌, ◌≤◌, nat_le, ◌&&◌, leb-true, length, get_or, refl, arith, ap, subst, sym, List, ◌∷◌, [], cond, Bool, true, false, IsTrue, Option, Some, None, Result, Ok, Err, pos, unsigned_abs}
+use Rattle.std.proofs.Common.{◌≡◌, ℕ, ◌<◌, ◌≤◌, nat_le, ◌&&◌, leb-true, length, get_or, refl, arith, ap, subst, sym, List, ◌∷◌, [], cond, Bool, true, false, IsTrue, Option, Some, None, Result, Ok, Err, pos}
 use Rattle.std.specs.Prelude.{IfOk, option_map}
 use Rattle.std.specs.List.{list_all}
 use Rattle.std.specs.Char.{is_ascii_hexdigit}

@@ -1,5 +1,5 @@
 -- The reading of integers.
-use Rattle.std.proofs.Common.{◌≡◌, ℕ, ◌+◌, ◌<◌, ◌≤◌, nat_le, refl, arith, ap, subst, sym, ◌∙◌, List, cond, Bool, true, false, Some, None, Result, Ok, Err, ℤ, pos, negsuc, unsigned_abs}
+use Rattle.std.proofs.Common.{◌≡◌, ℕ, ◌<◌, ◌≤◌, nat_le, refl, arith, ap, subst, sym, ◌∙◌, List, cond, Bool, true, false, Some, None, Result, Ok, Err, ℤ, pos, negsuc, unsigned_abs}
 use Rattle.std.specs.Prelude.{if◌then◌else◌}
 use Rattle.fix_num.specs.Decimal.{Stands, reading_of}
 use Rattle.fix_num.specs.declared.decimal.NumFault.{NumFault}

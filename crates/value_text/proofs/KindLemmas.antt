@@ -2,7 +2,7 @@
 use Rattle.std.proofs.Common.{arith, length, ◌≡◌, ℕ, refl, ap, subst, sym, List, ◌∷◌, [], Bool, true, false, Option, Some, None, Err, ℤ}
 use Rattle.std.specs.Prelude.{codes, if◌then◌else◌, option_map}
 use Rattle.fix_num.specs.declared.units.Fix.{Fix}
-use Rattle.token_parts.specs.Keywords.{look_up, is_keyword}
+use Rattle.token_parts.specs.Keywords.{is_keyword}
 use Rattle.token_parts.specs.Parts.{TokenPart, Ident, Function, Hash, Number, Percent, Dimension, Comma, Close, Other}
 use Rattle.token_parts.specs.declared.fault.ValueFault.TheVariants.{Unsupported}
 use Rattle.value_types.specs.Keywords.{display_named, visibility_named}

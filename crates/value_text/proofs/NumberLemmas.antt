@@ -1,9 +1,8 @@
 -- The reading of numbers and integers.
-use Rattle.std.proofs.Common.{◌≡◌, ℕ, suc, ◌+◌, ◌^◌, ◌<◌, ◌≤◌, nat_lt, refl, arith, ap, subst, sym, ◌∙◌, List, ◌∷◌, [], length, drop, cond, ◌==◌, Bool, true, false, Option, Some, None, Result, Ok, Err, ℤ, pos, negsuc, unsigned_abs}
-use Rattle.std.specs.Prelude.{if◌then◌else◌, not, neg_ℤ, ◌≤ℤ◌, slice_index}
+use Rattle.std.proofs.Common.{◌≡◌, ℕ, suc, ◌^◌, ◌<◌, ◌≤◌, nat_lt, refl, arith, ap, subst, sym, ◌∙◌, List, ◌∷◌, [], length, ◌==◌, Bool, true, false, Result, Ok, Err, ℤ, pos, negsuc, unsigned_abs}
+use Rattle.std.specs.Prelude.{if◌then◌else◌, not, ◌≤ℤ◌, slice_index}
 use Rattle.std.proofs.lemmas.Bool.Decides.{nat_tests}
 use Rattle.std.proofs.lemmas.Int.{ints}
-use Rattle.std.proofs.Math.Nat.{mul-le-mul_right}
 use Rattle.fix_num.specs.Decimal.{is_minus}
 use Rattle.fix_num.specs.Rounded.{StandsNear, rounded_reading_of}
 use Rattle.fix_num.specs.declared.decimal.NumFault.{NumFault}
@@ -11,7 +10,7 @@ use Rattle.fix_num.specs.declared.decimal.NumFault.TheVariants.{Syntax, TooFine,
 use Rattle.fix_num.specs.declared.limits.TheConstants.{MAX_NUMBER}
 use Rattle.fix_num.specs.declared.units.Fix.{Fix}
 use Rattle.fix_num.proofs.IntegerLemmas.{one_near}
-use Rattle.fix_num.proofs.RoundedReadingLemmas.{far_told, near_from, near_told, never_fine, none_told}
+use Rattle.fix_num.proofs.RoundedReadingLemmas.{far_told, near_told, never_fine, none_told}
 use Rattle.fix_num.proofs.SignLemmas.{sign_of}
 use Rattle.token_parts.specs.declared.fault.ValueFault.TheVariants.{Unsupported, Bound}
 use Rattle.value_types.specs.Ranges.{IsInRange, is_in_range}

@@ -1,5 +1,5 @@
 -- Colours, as functions of the parts.
-use Rattle.std.specs.Prelude.{ℕ, pos, if◌then◌else◌, List, [], ◌∷◌, Option, None, Some, Result, Ok, Err}
+use Rattle.std.specs.Prelude.{ℕ, if◌then◌else◌, List, [], ◌∷◌, Option, None, Some, Result, Ok, Err}
 use Rattle.fix_num.specs.declared.units.Fix.{Fix}
 use Rattle.fix_num.specs.declared.units.TheConstants.Fix.{ONE}
 use Rattle.token_parts.specs.Steps.{◌>>=◌, after_comma}

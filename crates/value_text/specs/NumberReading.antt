@@ -1,5 +1,5 @@
 -- Numbers of values, as functions of the text.
-use Rattle.std.specs.Prelude.{ℕ, ◌==◌, ℤ, pos, negsuc, Bool, true, false, ◌&&◌, not, nat_le, nat_lt, if◌then◌else◌, length, slice_index, List, Option, None, Some, Result, Ok, Err}
+use Rattle.std.specs.Prelude.{ℕ, ◌==◌, ℤ, pos, negsuc, Bool, true, false, ◌&&◌, not, nat_lt, if◌then◌else◌, length, slice_index, List, Option, None, Some, Result, Ok, Err}
 use Rattle.fix_num.specs.Decimal.{reading_of}
 use Rattle.fix_num.specs.Integer.{has_no_point}
 use Rattle.fix_num.specs.Rounded.{rounded_reading_of}

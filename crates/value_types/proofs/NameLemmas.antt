@@ -1,5 +1,5 @@
 -- Names of animations.
-use Rattle.std.proofs.Common.{◌≡◌, ℕ, List, true, not, IsTrue}
+use Rattle.std.proofs.Common.{◌≡◌, ℕ, List, true}
 use Rattle.std.proofs.lemmas.Bool.{and_parts}
 use Rattle.css_token.specs.Productions.{begins_identifier}
 use Rattle.value_types.specs.Names.{IsAnimationName, is_animation_name}

@@ -1,5 +1,5 @@
-use Rattle.std.proofs.Common.{◌≡◌, ◌∙◌, ◌*◌, ◌^◌, ◌≤◌, arith, rules}
-use Rattle.std.specs.Prelude.{◌*ℤ◌, unsigned_abs}
+use Rattle.std.proofs.Common.{◌≡◌, ◌∙◌, ◌^◌, arith, rules}
+use Rattle.std.specs.Prelude.{◌*ℤ◌}
 use Rattle.std.specs.Int.{w64, w128, cast_signed, cast_unsigned}
 use Rattle.std.proofs.lemmas.Int.{fits_signed_mul, ints, to_z-of_z, unsigned_abs-mul}
 use mir.Val.{SFits}

@@ -1,8 +1,7 @@
-use Rattle.std.proofs.Common.{◌*◌, ◌^◌, ◌≤◌, arith, rules}
-use Rattle.std.specs.Prelude.{◌*ℤ◌, unsigned_abs}
+use Rattle.std.proofs.Common.{◌*◌, ◌^◌, arith, rules}
+use Rattle.std.specs.Prelude.{◌*ℤ◌}
 use Rattle.std.specs.Int.{w64, w128}
-use Rattle.std.proofs.lemmas.Int.{fits_signed_mul, to_z-of_z, unsigned_abs-mul}
-use Rattle.std.proofs.Math.Nat.{mul-le-mul}
+use Rattle.std.proofs.lemmas.Int.{fits_signed_mul, to_z-of_z}
 use mir.Val.{SFits}
 use Rattle.interpolation.proofs.color.scaled.Goals as goal
 
