@@ -1,9 +1,9 @@
 -- The links of a list in both directions: splits, writes elsewhere, and a new end.
-use Rattle.std.proofs.Common.{◌≡◌, ◌≢◌, ℕ, ◌+◌, ◌*◌, ◌<◌, ◌≤◌, true, false, eqb, List, [], ◌∷◌, ◌++◌, map, length, get_or, set, zero, suc, refl, sym, ap, ◌∙◌, subst, inl, inr, arith, append_assoc}
-use Rattle.std.proofs.lemmas.Bool.{eqb-true, eq-eqb, ne_eqb, or_parts, or_from, or_left, or_right, false≢true}
+use Rattle.std.proofs.Common.{◌≡◌, ◌≢◌, ℕ, ◌+◌, ◌<◌, ◌≤◌, true, false, eqb, List, [], ◌∷◌, ◌++◌, length, get_or, set, zero, suc, refl, sym, ap, ◌∙◌, subst, arith, append_assoc}
+use Rattle.std.proofs.lemmas.Bool.{eq-eqb, ne_eqb, or_parts, or_from, or_left, or_right, false≢true}
 use Rattle.std.proofs.lemmas.List.{append-nil, length-append, get_or_append_left, set-get_or}
 use Rattle.doc_tree.specs.Marks.{has, marks_until, AreDifferent, IsAt, Leads}
-use Rattle.doc_tree.proofs.Numbers.{has-self, apart_from, absent-parts, absent-from, different-front, different-apart, different-before, different-after, different-cut, at-set_same, at-set_other, at-append, at-seam}
+use Rattle.doc_tree.proofs.Numbers.{apart_from, absent-parts, absent-from, different-front, different-apart, different-before, different-after, different-cut, at-set_same, at-set_other, at-append, at-seam}
 
 pub leads-split : (n p : List ℕ) (a : ℕ) (xs : List ℕ) (m : ℕ) (ys : List ℕ) (b : ℕ) → Leads n p a (xs ++ m ∷ ys) b → Leads n p a xs m × Leads n p m ys b
 leads-split n p a [] m ys b l = ((l.0, l.1), l.2)
@@ -118,8 +118,7 @@ module _ (n p : List ℕ) (o q m : ℕ) (next_len : length n ≡ o) (previous_le
 
   splice-middle : (xs : List ℕ) → Leads n p 0 xs m → m < o → IsAt n' o q × IsAt p' q o × IsAt n' q m × IsAt p' m q
   splice-middle xs l low =
-      let low_b : b < o = omega (arith, last_within n p 0 xs m l, next_len) in
-      (
+      let low_b : b < o = omega (arith, last_within n p 0 xs m l, next_len) in (
         at-set_other (n ++ q ∷ m ∷ []) b o q o (λ same. omega arith) (at-seam n (m ∷ []) o q (sym next_len)),
         at-set_other (p ++ b ∷ o ∷ []) m q o q (λ same. omega arith) (at-next p b o q (omega arith)),
         at-set_other (n ++ q ∷ m ∷ []) b q m o (λ same. omega arith) (at-next n q m q (omega arith)),
@@ -135,7 +134,7 @@ module _ (n p : List ℕ) (o q m : ℕ) (next_len : length n ≡ o) (previous_le
       let none = subst (λ (x : ℕ). has x xs ≡ false) (sym is) (absent-parts 1 xs [] no_end).0 in
       let middle = splice-middle xs to low_m in
       leads-join n' p' 0 xs o (q ∷ []) 1 (splice-front xs to (different-front (0 ∷ xs) [] d) none low_m)
-          (middle.0, middle.1, subst (λ (x : ℕ). IsAt n' q x × IsAt p' x q) is (middle.2, middle.3))
+      (middle.0, middle.1, subst (λ (x : ℕ). IsAt n' q x × IsAt p' x q) is (middle.2, middle.3))
   splice xs (y ∷ ys) l d no_end is low =
       let parts = leads-split n p 0 xs y ys 1 l in
       let to : Leads n p 0 xs m = subst (λ (x : ℕ). Leads n p 0 xs x) (sym is) parts.0 in

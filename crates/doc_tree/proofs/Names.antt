@@ -1,7 +1,7 @@
 -- Each of some texts once.
 use Rattle.std.proofs.Common.{Bor, ◌≡◌, ℕ, ◌+◌, ◌<◌, ◌≤◌, ◌||◌, Bool, true, false, not, cond, List, [], ◌∷◌, ◌++◌, map, filter, length, take, drop, get_or, set, suc, refl, sym, ap, ◌∙◌, subst, inl, inr, arith, length-append, append_assoc, bytes_eq}
 use Rattle.std.specs.List.{list_any}
-use Rattle.std.proofs.lemmas.Bool.{cases_Bool, false≢true, false_from_ne_true}
+use Rattle.std.proofs.lemmas.Bool.{cases_Bool}
 use Rattle.std.proofs.lemmas.List.{append-nil, length-map, length-take, map-append, take-append-drop}
 use Rattle.std.proofs.Math.Seq.{take-suc, take-suc-set}
 use Rattle.std.proofs.lemmas.List.Elements.{filter-append}
@@ -42,6 +42,7 @@ each_once-last (x ∷ xs) y =
     dropped : (x y : List ℕ) (b : Bool) → bytes_eq x y ≡ true → filter (λ z. not (bytes_eq x z)) (cond b [] (y ∷ [])) ≡ []
     dropped x y true same = refl
     dropped x y false same = rw same refl
+
     kept : (x y : List ℕ) (b : Bool) → bytes_eq x y ≡ false → filter (λ z. not (bytes_eq x z)) (cond b [] (y ∷ [])) ≡ cond b [] (y ∷ [])
     kept x y true differs = refl
     kept x y false differs = rw differs refl

@@ -1,21 +1,21 @@
 -- A node is put between the marks of a tour.
-use Rattle.std.proofs.Common.{◌≡◌, ◌≢◌, ℕ, ◌+◌, ◌*◌, ◌<◌, ◌≤◌, ◌||◌, Bool, true, false, not, eqb, Option, Some, None, List, [], ◌∷◌, ◌++◌, map, length, drop, get_or, set, zero, suc, refl, sym, ap, ◌∙◌, subst, inl, inr, arith, is_some, length-append, append_assoc}
-use Rattle.std.specs.Prelude.{nat_lt, ⊤}
+use Rattle.std.proofs.Common.{◌≡◌, ℕ, ◌+◌, ◌*◌, ◌<◌, ◌≤◌, ◌||◌, Bool, true, false, eqb, Option, Some, None, List, [], ◌∷◌, ◌++◌, map, length, drop, get_or, zero, suc, refl, sym, ap, ◌∙◌, subst, inl, inr, arith, is_some, length-append}
+use Rattle.std.specs.Prelude.{nat_lt}
 use Rattle.std.specs.Option.{option_map_or}
-use Rattle.std.specs.List.{list_any, list_all}
-use Rattle.std.proofs.lemmas.Bool.{cases_Bool, cases_order, eqb-true, eq-eqb, ne_eqb, lt-ltb, and_from, and_parts, or_cases, or_parts, or_from, or_left, or_right, false≢true}
-use Rattle.std.proofs.lemmas.List.{length-map, length-set, map-append, append-nil, get_or_append_left}
+use Rattle.std.specs.List.{list_all}
+use Rattle.std.proofs.lemmas.Bool.{cases_order, eq-eqb, ne_eqb, lt-ltb, and_from, and_parts, or_parts, or_from, or_left, or_right, false≢true}
+use Rattle.std.proofs.lemmas.List.{length-set, map-append, append-nil, get_or_append_left}
 use Rattle.std.proofs.lemmas.List.Folds.{list_all-append}
 use Rattle.std.proofs.Math.Seq.{get_or-append_seam}
-use Rattle.doc_tree.specs.Element.{Element, Document}
+use Rattle.doc_tree.specs.Element.{Element}
 use Rattle.doc_tree.specs.Shape.{is_bounded}
 use Rattle.doc_tree.specs.declared.node.Node.{Node}
 use Rattle.doc_tree.specs.declared.limits.TheConstants.{MAX_DEPTH, MAX_ELEMENTS, MAX_SLOTS}
-use Rattle.doc_tree.specs.Marks.{Kept, Mark, Open, Close, code, opened, has, document_of, element_at, depth_at, is_live, number_above, no_element, with_node, AreDifferent, IsAt, IsBelow, IsSound, IsTour, IsSized, IsFit, Nests, Leads}
-use Rattle.doc_tree.proofs.Numbers.{has-append, has-self, at-append, at-seam, below-at, below-set, below-weaker, different-put, absent-from, different-back}
+use Rattle.doc_tree.specs.Marks.{Kept, Mark, Open, Close, code, opened, has, document_of, element_at, depth_at, is_live, number_above, no_element, with_node, AreDifferent, IsAt, IsBelow, IsSound, IsSized, IsFit, Nests, Leads}
+use Rattle.doc_tree.proofs.Numbers.{has-append, has-self, at-append, at-seam, below-at, below-set, below-weaker, different-put, absent-from}
 use Rattle.doc_tree.proofs.Links.{first_mark, first_mark-nil, first_mark-cons, splice, leads-split, leads-fresh, target_within}
-use Rattle.doc_tree.proofs.Tours.{opened-append, no_code, nests-join, nests-same, below-same, number_above-kept, elements-same, rooted-same, open_was_opened, IsSameAt}
-use Rattle.doc_tree.proofs.Sound.{opened-live, live-opened, elements-sound}
+use Rattle.doc_tree.proofs.Tours.{opened-append, no_code, nests-join, nests-same, number_above-kept, elements-same, rooted-same, open_was_opened, IsSameAt}
+use Rattle.doc_tree.proofs.Sound.{opened-live, elements-sound}
 
 -- an index past the end has the default
 pub get_or-past : (slots : List (Option Node)) (s : ℕ) → length slots ≤ s → get_or slots s None ≡ None
@@ -125,7 +125,7 @@ module _ (k : Kept) (sound : IsSound k) (x : Node) (m : ℕ) (gap : IsGap k soun
         depth = own-depth ∙ gap.depth;
       } in
       nests-join el' dep' gap.xs (Open c ∷ Close c ∷ gap.ys) [] gap.stack [] (nests-same el el' dep dep' gap.xs [] gap.stack (λ t h. absurd (false≢true h)) same-front gap.front)
-          (below, (refl, nests-same el el' dep dep' gap.ys gap.stack [] same-stack same-back gap.back))
+      (below, (refl, nests-same el el' dep dep' gap.ys gap.stack [] same-stack same-back gap.back))
 
   codes-split : map code sound.marks ≡ map code gap.xs ++ map code gap.ys
   codes-split = ap (map code) gap.is ∙ map-append code gap.xs gap.ys
@@ -189,7 +189,7 @@ module _ (k : Kept) (sound : IsSound k) (x : Node) (m : ℕ) (gap : IsGap k soun
       let own : is_some (el' c).parent ≡ true = ap (λ (e : Element). is_some e.parent) own-element ∙ parent in
       let old = subst (λ (ss : List ℕ). list_all (λ s. is_some (el s).parent) (drop 1 ss) ≡ true) opened-split sound.tour.rooted in
       drop-put (λ (s : ℕ). is_some (el' s).parent) (opened gap.xs) (opened gap.ys) c q there own
-          (rooted-same el el' dep dep' (drop 1 (opened gap.xs ++ opened gap.ys)) (λ t h. same-below t (opened-within t (ap (has t) opened-split ∙ has-drop t (opened gap.xs ++ opened gap.ys) h))) old)
+      (rooted-same el el' dep dep' (drop 1 (opened gap.xs ++ opened gap.ys)) (λ t h. same-below t (opened-within t (ap (has t) opened-split ∙ has-drop t (opened gap.xs ++ opened gap.ys) h))) old)
 
   rooted-put : list_all (λ s. is_some (el' s).parent) (drop 1 (opened marks')) ≡ true
   rooted-put = subst (λ (ss : List ℕ). list_all (λ s. is_some (el' s).parent) (drop 1 ss) ≡ true) (sym opened-put) (rooted-cases gap.stack refl)

@@ -1,17 +1,17 @@
 -- A slot is taken out of a tour, with those between its marks.
-use Rattle.std.proofs.Common.{◌≡◌, ◌≢◌, ℕ, ◌+◌, ◌-◌, ◌*◌, ◌<◌, ◌≤◌, ◌||◌, Bool, true, false, not, eqb, Option, Some, None, Result, Ok, Err, OnOk, OnErr, IfOk, List, [], ◌∷◌, ◌++◌, map, length, drop, get_or, set, zero, suc, refl, sym, ap, ◌∙◌, subst, inl, inr, arith, is_some, length-append, append_assoc}
+use Rattle.std.proofs.Common.{◌≡◌, ◌≢◌, ℕ, ◌+◌, ◌*◌, ◌<◌, ◌≤◌, ◌||◌, Bool, true, false, not, eqb, Option, None, List, [], ◌∷◌, ◌++◌, map, length, drop, get_or, set, zero, suc, refl, sym, ap, ◌∙◌, subst, inl, inr, arith, is_some, length-append, append_assoc}
 use Rattle.std.specs.Prelude.{nat_lt, filter}
 use Rattle.std.specs.Option.{option_map_or}
-use Rattle.std.specs.List.{list_any, list_all}
-use Rattle.std.proofs.lemmas.Bool.{cases_Bool, eqb-true, eq-eqb, ne_eqb, lt-ltb, and_from, and_parts, or_cases, or_parts, or_from, or_left, or_right, false≢true}
+use Rattle.std.specs.List.{list_all}
+use Rattle.std.proofs.lemmas.Bool.{cases_Bool, eqb-true, eq-eqb, lt-ltb, and_from, and_parts, or_cases, or_parts, or_from, or_left, or_right, false≢true}
 use Rattle.std.proofs.lemmas.List.{length-map, length-set, map-append, get_or-set_other}
 use Rattle.std.proofs.lemmas.List.Folds.{list_all-append}
-use Rattle.doc_tree.specs.Element.{Element, Document, is_inclusive_descendant, subtree_of, numbers_of}
+use Rattle.doc_tree.specs.Element.{Element, is_inclusive_descendant, subtree_of, numbers_of}
 use Rattle.doc_tree.specs.Shape.{is_bounded}
 use Rattle.doc_tree.specs.Change.{without}
 use Rattle.doc_tree.specs.declared.node.Node.{Node}
 use Rattle.doc_tree.specs.declared.limits.TheConstants.{MAX_DEPTH}
-use Rattle.doc_tree.specs.Marks.{Kept, Mark, Open, Close, code, opened, has, slots_of, marks_until, slots_below, cleared, document_of, element_at, depth_at, is_live, number_above, no_element, without_slot, AreDifferent, IsAt, IsBelow, IsSound, IsTour, IsSized, IsFit, IsSlotOf, Nests, Leads}
+use Rattle.doc_tree.specs.Marks.{Kept, Mark, Open, Close, code, opened, has, slots_of, slots_below, cleared, document_of, element_at, depth_at, is_live, no_element, without_slot, AreDifferent, IsAt, IsSound, IsSized, IsFit, Nests, Leads}
 use Rattle.doc_tree.proofs.Numbers.{has-append, has-self, below-at, below-set, different-back, different-apart, different-cut}
 use Rattle.doc_tree.proofs.Links.{cut, leads-split, until-leads}
 use Rattle.doc_tree.proofs.Tours.{opened-append, slots_of-codes, no_code, different-opened, nests-join, nests-same, count-nests, elements-same, rooted-same, open_was_opened, IsSameAt, IsSpan}
@@ -151,7 +151,7 @@ module _ (k : Kept) (sound : IsSound k) (s : ℕ) (live : is_live k.slots s ≡ 
   nests-cut : Nests el' dep' (sp.before ++ sp.after) [] []
   nests-cut =
       nests-join el' dep' sp.before sp.after [] sp.under [] (nests-same el el' dep dep' sp.before [] sp.under (λ t h. absurd (false≢true h)) same-before sp.front)
-          (nests-same el el' dep dep' sp.after sp.under [] (λ t h. same-before t (open_was_opened el dep sp.before sp.under t sp.front h)) same-after sp.back)
+      (nests-same el el' dep dep' sp.after sp.under [] (λ t h. same-before t (open_was_opened el dep sp.before sp.under t sp.front h)) same-after sp.back)
 
   opened-cut : opened (sp.before ++ sp.after) ≡ opened sp.before ++ opened sp.after
   opened-cut = opened-append sp.before sp.after
@@ -163,7 +163,7 @@ module _ (k : Kept) (sound : IsSound k) (s : ℕ) (live : is_live k.slots s ≡ 
   different-cut-codes =
       subst AreDifferent (sym (map-append code sp.before sp.after))
       (different-cut (map code sp.before) ((2 * s + 2) ∷ (map code sp.inner ++ (2 * s + 3) ∷ [])) (map code sp.after)
-          (subst (λ (zs : List ℕ). AreDifferent (map code sp.before ++ (2 * s + 2) ∷ zs)) (sym (append_assoc (map code sp.inner) ((2 * s + 3) ∷ []) (map code sp.after))) different-codes))
+      (subst (λ (zs : List ℕ). AreDifferent (map code sp.before ++ (2 * s + 2) ∷ zs)) (sym (append_assoc (map code sp.inner) ((2 * s + 3) ∷ []) (map code sp.after))) different-codes))
 
   linked-cut : Leads k'.next k'.previous 0 (map code (sp.before ++ sp.after)) 1
   linked-cut =
@@ -187,18 +187,18 @@ module _ (k : Kept) (sound : IsSound k) (s : ℕ) (live : is_live k.slots s ≡ 
   rooted-all =
       let whole = subst (λ (ss : List ℕ). list_all (λ t. is_some (el t).parent) (drop 1 ss) ≡ true) opened-span sound.tour.rooted in
       rooted-cut (λ (t : ℕ). is_some (el t).parent) (opened sp.before) gone (opened sp.after) whole
-          (λ none.
-          let under : sp.under ≡ [] = no_opened el dep sp.before sp.under sp.front none in
-          let rest = subst (λ (ss : List ℕ). list_all (λ t. is_some (el t).parent) (drop 1 (ss ++ (gone ++ opened sp.after))) ≡ true) none whole in
-          let parts = and_parts (list_all (λ t. is_some (el t).parent) (opened sp.inner)) _ (sym (list_all-append (λ (t : ℕ). is_some (el t).parent) (opened sp.inner) (opened sp.after)) ∙ rest) in
-          no_second_root el dep sp.after (subst (λ (st : List ℕ). Nests el dep sp.after st []) under sp.back) parts.1)
+      (λ none.
+      let under : sp.under ≡ [] = no_opened el dep sp.before sp.under sp.front none in
+      let rest = subst (λ (ss : List ℕ). list_all (λ t. is_some (el t).parent) (drop 1 (ss ++ (gone ++ opened sp.after))) ≡ true) none whole in
+      let parts = and_parts (list_all (λ t. is_some (el t).parent) (opened sp.inner)) _ (sym (list_all-append (λ (t : ℕ). is_some (el t).parent) (opened sp.inner) (opened sp.after)) ∙ rest) in
+      no_second_root el dep sp.after (subst (λ (st : List ℕ). Nests el dep sp.after st []) under sp.back) parts.1)
 
   rooted-new : list_all (λ t. is_some (el' t).parent) (drop 1 (opened (sp.before ++ sp.after))) ≡ true
   rooted-new =
       subst (λ (ss : List ℕ). list_all (λ t. is_some (el' t).parent) (drop 1 ss) ≡ true) (sym opened-cut)
       (rooted-same el el' dep dep' (drop 1 (opened sp.before ++ opened sp.after))
-          (λ t h.
-          elim (or_cases _ _ (sym (has-append t (opened sp.before) (opened sp.after)) ∙ has-drop t (opened sp.before ++ opened sp.after) h)) [ inl there ↦ same-before t there | inr there ↦ same-after t there ]) rooted-all)
+      (λ t h.
+      elim (or_cases _ _ (sym (has-append t (opened sp.before) (opened sp.after)) ∙ has-drop t (opened sp.before ++ opened sp.after) h)) [ inl there ↦ same-before t there | inr there ↦ same-after t there ]) rooted-all)
 
   within-s : s < length k.keys
   within-s = (sound.fit s live).key.within
@@ -258,7 +258,7 @@ module _ (k : Kept) (sound : IsSound k) (s : ℕ) (live : is_live k.slots s ≡ 
       let others = others-span el dep sound.marks s (proper k sound) (live-opened k sound s live) sp in
       let elements : (document_of k').elements ≡ map el (opened sp.before ++ opened sp.after) =
       elements-sound k' cut-sound ∙ (ap (map el') opened-cut ∙ elements-same el el' dep dep' (opened sp.before ++ opened sp.after)
-          (λ t h. elim (or_cases _ _ (sym (has-append t (opened sp.before) (opened sp.after)) ∙ h)) [ inl there ↦ same-before t there | inr there ↦ same-after t there ])) in
+      (λ t h. elim (or_cases _ _ (sym (has-append t (opened sp.before) (opened sp.after)) ∙ h)) [ inl there ↦ same-before t there | inr there ↦ same-after t there ])) in
       let filtered : filter (λ e. not (is_inclusive_descendant (document_of k).elements (el s).number e.number)) (document_of k).elements ≡ map el (opened sp.before ++ opened sp.after) =
       ap (λ (es : List Element). filter (λ e. not (is_inclusive_descendant es (el s).number e.number)) es) (elements-sound k sound) ∙ others in
       ap (λ (es : List Element). record { elements = es; used = k.keys }) (elements ∙ sym filtered)
@@ -271,6 +271,7 @@ module _ (k : Kept) (sound : IsSound k) (s : ℕ) (live : is_live k.slots s ≡ 
     where
       there : (t : ℕ) → has t gone ≡ true → get_or k.keys t 0 ≡ (el t).number
       there t h = (sound.fit t (opened-live k sound t (ap (has t) opened-span ∙ (has-append t (opened sp.before) (gone ++ opened sp.after) ∙ or_right _ _ (has-append t gone (opened sp.after) ∙ or_left _ _ h))))).key.is
+
       keys-of : (ss : List ℕ) → ((t : ℕ) → has t ss ≡ true → get_or k.keys t 0 ≡ (el t).number) → numbers_of (map el ss) ≡ map (λ t. get_or k.keys t 0) ss
       keys-of [] f = refl
       keys-of (t ∷ ss) f =

@@ -1,19 +1,17 @@
 -- The elements of a tour: they are a tree in tree order, and the open slots are the ancestors.
-use Rattle.std.proofs.Common.{◌≡◌, ◌≢◌, ℕ, ◌+◌, ◌*◌, ◌<◌, ◌≤◌, ◌⊎◌, Bool, true, false, not, eqb, Option, Some, None, List, [], ◌∷◌, ◌++◌, map, length, take, drop, get_or, zero, suc, refl, sym, ap, ◌∙◌, subst, inl, inr, arith, is_some, length-append, append_assoc}
-use Rattle.std.specs.Prelude.{filter, IfSome}
+use Rattle.std.proofs.Common.{◌≡◌, ℕ, ◌+◌, ◌*◌, ◌⊎◌, Bool, true, false, eqb, Option, List, [], ◌∷◌, ◌++◌, map, drop, refl, sym, ap, ◌∙◌, subst, inl, inr, arith, is_some, append_assoc}
+use Rattle.std.specs.Prelude.{filter}
 use Rattle.std.specs.Option.{option_map_or}
-use Rattle.std.specs.List.{list_any, list_all}
+use Rattle.std.specs.List.{list_all}
 use Rattle.std.proofs.lemmas.Bool.{cases_Bool, eqb-true, eq-eqb, ne_eqb, and_parts, or_cases, or_parts, or_from, or_left, or_right, false≢true}
 use Rattle.std.proofs.lemmas.List.{map-append}
-use Rattle.std.proofs.lemmas.List.Folds.{list_any-append}
 use Rattle.doc_tree.specs.Element.{Element, is_in, chain, reversed_onto, inclusive_ancestors, is_inclusive_descendant}
-use Rattle.doc_tree.specs.Shape.{Follows, IsNext, IsGrown}
+use Rattle.doc_tree.specs.Shape.{Follows, IsGrown}
 use Rattle.doc_tree.specs.Marks.{Mark, Open, Close, code, opened, has, number_above, AreDifferent, IsBelow, Nests}
-use Rattle.doc_tree.proofs.Numbers.{has-append, has-self, apart_from, absent-parts, different-apart}
-use Rattle.doc_tree.proofs.Lists.{list_any-map}
+use Rattle.doc_tree.proofs.Numbers.{has-append, has-self, different-apart}
 use Rattle.doc_tree.proofs.Chains.{Has, Ends, chain-here, chain-past, is_in-chain, has-end}
 use Rattle.doc_tree.proofs.Growth.{onto-append, is_in-onto_none, grown-back, chain-stays}
-use Rattle.doc_tree.proofs.Tours.{opened-append, different-opened, nests-split, nests-join, open_was_opened}
+use Rattle.doc_tree.proofs.Tours.{opened-append, different-opened, nests-join, open_was_opened}
 
 module _ (el : ℕ → Element) (dep : ℕ → ℕ) where
   -- no two of the slots have elements of one number
@@ -207,9 +205,10 @@ module _ (el : ℕ → Element) (dep : ℕ → ℕ) where
   each-inside ms pre [] rest s stack end p there is front n inside closed = tt
   each-inside ms pre (Open t ∷ zs) rest s stack end p there is front n inside closed =
       let next : ms ≡ (pre ++ Open t ∷ []) ++ (zs ++ rest) = is ∙ sym (append_assoc pre (Open t ∷ []) (zs ++ rest)) in
-      let front' = nests-join el dep pre (Open t ∷ []) [] stack (t ∷ stack) front (n.0, refl) in
-      (subst (λ (b : Bool). IsInside ms s b t) (or_right (eqb s t) _ inside) (inside-stack ms pre (zs ++ rest) s t stack p there is front n.0),
-      each-inside ms (pre ++ Open t ∷ []) zs rest s (t ∷ stack) end p there next front' n.1 (or_right _ _ inside) (or_parts _ _ closed).1)
+      let front' = nests-join el dep pre (Open t ∷ []) [] stack (t ∷ stack) front (n.0, refl) in (
+        subst (λ (b : Bool). IsInside ms s b t) (or_right (eqb s t) _ inside) (inside-stack ms pre (zs ++ rest) s t stack p there is front n.0),
+        each-inside ms (pre ++ Open t ∷ []) zs rest s (t ∷ stack) end p there next front' n.1 (or_right _ _ inside) (or_parts _ _ closed).1,
+      )
   each-inside ms pre (Close t ∷ zs) rest s [] end p there is front n inside closed = absurd n
   each-inside ms pre (Close t ∷ zs) rest s (q ∷ stack) end p there is front n inside closed =
       let next : ms ≡ (pre ++ Close t ∷ []) ++ (zs ++ rest) = is ∙ sym (append_assoc pre (Close t ∷ []) (zs ++ rest)) in
@@ -228,9 +227,10 @@ module _ (el : ℕ → Element) (dep : ℕ → ℕ) where
   each-outside ms pre (Open t ∷ zs) rest s stack end p there is front n outside unopened =
       let next : ms ≡ (pre ++ Open t ∷ []) ++ (zs ++ rest) = is ∙ sym (append_assoc pre (Open t ∷ []) (zs ++ rest)) in
       let front' = nests-join el dep pre (Open t ∷ []) [] stack (t ∷ stack) front (n.0, refl) in
-      let parts = or_parts (eqb s t) _ unopened in
-      (subst (λ (b : Bool). IsInside ms s b t) (or_from (eqb s t) _ parts.0 outside) (inside-stack ms pre (zs ++ rest) s t stack p there is front n.0),
-      each-outside ms (pre ++ Open t ∷ []) zs rest s (t ∷ stack) end p there next front' n.1 (or_from _ _ parts.0 outside) parts.1)
+      let parts = or_parts (eqb s t) _ unopened in (
+        subst (λ (b : Bool). IsInside ms s b t) (or_from (eqb s t) _ parts.0 outside) (inside-stack ms pre (zs ++ rest) s t stack p there is front n.0),
+        each-outside ms (pre ++ Open t ∷ []) zs rest s (t ∷ stack) end p there next front' n.1 (or_from _ _ parts.0 outside) parts.1,
+      )
   each-outside ms pre (Close t ∷ zs) rest s [] end p there is front n outside unopened = absurd n
   each-outside ms pre (Close t ∷ zs) rest s (q ∷ stack) end p there is front n outside unopened =
       let next : ms ≡ (pre ++ Close t ∷ []) ++ (zs ++ rest) = is ∙ sym (append_assoc pre (Close t ∷ []) (zs ++ rest)) in

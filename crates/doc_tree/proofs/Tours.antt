@@ -1,10 +1,10 @@
 -- Marks that nest: splits, the stack of open slots, and the span of a slot.
-use Rattle.std.proofs.Common.{◌≡◌, ◌≢◌, ℕ, ◌+◌, ◌*◌, ◌-◌, ◌/◌, ◌%◌, ◌<◌, ◌≤◌, true, false, eqb, Option, Some, None, List, [], ◌∷◌, ◌++◌, map, length, zero, suc, refl, sym, ap, ◌∙◌, subst, inl, inr, arith, is_some, length-append, append_assoc}
+use Rattle.std.proofs.Common.{◌≡◌, ℕ, ◌+◌, ◌*◌, ◌-◌, ◌/◌, ◌%◌, ◌<◌, true, false, eqb, Some, List, [], ◌∷◌, ◌++◌, map, length, refl, sym, ap, ◌∙◌, subst, inl, inr, arith, is_some, append_assoc}
 use Rattle.std.specs.List.{list_all}
 use Rattle.std.proofs.lemmas.Bool.{cases_Bool, and_from, and_parts, eqb-true, eq-eqb, ne_eqb, or_cases, or_parts, or_from, or_left, or_right, false≢true}
 use Rattle.doc_tree.specs.Element.{Element}
 use Rattle.doc_tree.specs.Marks.{Mark, Open, Close, code, opened, slots_of, has, number_above, AreDifferent, IsBelow, Nests}
-use Rattle.doc_tree.proofs.Numbers.{has-append, has-self, apart_from}
+use Rattle.doc_tree.proofs.Numbers.{has-self}
 
 pub opened-append : (xs ys : List Mark) → opened (xs ++ ys) ≡ opened xs ++ opened ys
 opened-append [] ys = refl
@@ -214,11 +214,12 @@ pub nests-same : (el el' : ℕ → Element) (dep dep' : ℕ → ℕ) (ms : List 
     → Nests el dep ms stack end → Nests el' dep' ms stack end
 nests-same el el' dep dep' [] stack end under over n = n
 nests-same el el' dep dep' (Open s ∷ ms) stack end under over n =
-    let own = over s (has-self s (opened ms)) in
-    (below-same el el' dep dep' s stack own under n.0,
-    nests-same el el' dep dep' ms (s ∷ stack) end
-        (λ t h. elim (or_cases (eqb t s) (has t stack) h) [ inl is ↦ subst (IsSameAt el el' dep dep') (sym (eqb-true _ _ is)) own | inr later ↦ under t later ])
-        (λ t h. over t (or_right _ _ h)) n.1)
+    let own = over s (has-self s (opened ms)) in (
+      below-same el el' dep dep' s stack own under n.0,
+      nests-same el el' dep dep' ms (s ∷ stack) end
+          (λ t h. elim (or_cases (eqb t s) (has t stack) h) [ inl is ↦ subst (IsSameAt el el' dep dep') (sym (eqb-true _ _ is)) own | inr later ↦ under t later ])
+          (λ t h. over t (or_right _ _ h)) n.1,
+    )
 nests-same el el' dep dep' (Close s ∷ ms) [] end under over n = absurd n
 nests-same el el' dep dep' (Close s ∷ ms) (q ∷ stack) end under over n = (n.0, nests-same el el' dep dep' ms stack end (λ t h. under t (or_right _ _ h)) over n.1)
 

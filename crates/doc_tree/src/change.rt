@@ -44,12 +44,7 @@ fn put_classes(nodes: &mut Nodes, slot: usize, names: Vec<String>)
 }
 
 /// Replaces the style text of element `n`.
-pub fn set_style_of(
-    alloc: Global,
-    nodes: &mut Nodes,
-    n: u32,
-    text: &str,
-) -> Result<(), TreeFault>
+pub fn set_style_of(alloc: Global, nodes: &mut Nodes, n: u32, text: &str) -> Result<(), TreeFault>
     requires sound { IsSound (kept_of nodes.old) }
     requires short { length text.now ≤ MAX_STYLE_BYTES }
     ensures sound { IsSound (kept_of nodes.new) }

@@ -149,7 +149,12 @@ fn slot_at(nodes: &Nodes, place: usize) -> Option<usize>
     ensures { result ≡ slice_get (slots_in (kept_of nodes.now)) place }
 {
     if !nodes.fresh {
-        return slot_until(&nodes.next, nodes.next[START] as usize, 2 * nodes.len, place);
+        return slot_until(
+            &nodes.next,
+            nodes.next[START] as usize,
+            2 * nodes.len,
+            place,
+        );
     }
     if place < nodes.len {
         Some(nodes.order[place] as usize)

@@ -108,11 +108,7 @@ fn slots_from(alloc: Global, nodes: &Nodes, slot: usize) -> Result<Vec<u32>, All
 }
 
 /// Removes element `n` and all below it; answers their numbers in tree order.
-pub fn remove_nodes(
-    alloc: Global,
-    nodes: &mut Nodes,
-    n: u32,
-) -> Result<Vec<u32>, TreeFault>
+pub fn remove_nodes(alloc: Global, nodes: &mut Nodes, n: u32) -> Result<Vec<u32>, TreeFault>
     requires { IsSound (kept_of nodes.old) }
     ensures sound { IsSound (kept_of nodes.new) }
     ensures fault { Answers (fault_of_change (document_of (kept_of nodes.old)).elements n) result }

@@ -12,7 +12,7 @@ pub returns-clause-fault : goal.returns-clause-fault
 returns-clause-fault c =
     let k = kept_of c.args.nodes.now in
     answers-by k c.requires c.args.n c.args.tag.now (fault_of_add (document_of k) c.args.n c.args.parent) (fault_at_depth (document_of k) c.args.n c.in-Some.place.depth (is_none c.in-Some.place.parent)) c.add_at.result
-        (fault-below k c.requires c.args.n c.args.tag.now c.args.parent c.in-Some.place.mark c.in-Some.place.parent c.in-Some.place.depth c.in-Some.ensures.place) c.add_at.ensures.fault
+    (fault-below k c.requires c.args.n c.args.tag.now c.args.parent c.in-Some.place.mark c.in-Some.place.parent c.in-Some.place.depth c.in-Some.ensures.place) c.add_at.ensures.fault
 
 pub returns-clause-ok : goal.returns-clause-ok
 returns-clause-ok c =
