@@ -1,20 +1,18 @@
 -- The places of new elements, and what an add and an insert make of a tree.
-use Rattle.std.proofs.Common.{◌≡◌, ◌≢◌, ℕ, ◌+◌, ◌*◌, ◌<◌, ◌≤◌, ◌&&◌, ◌⊎◌, Bool, true, false, not, eqb, Option, Some, None, Result, Ok, Err, OnOk, OnErr, cond, List, [], ◌∷◌, ◌++◌, map, length, refl, sym, ap, ◌∙◌, subst, inl, inr, arith, is_none, is_some, length-append, append_assoc}
+use Rattle.std.proofs.Common.{◌≡◌, ℕ, ◌+◌, ◌*◌, ◌<◌, ◌≤◌, ◌&&◌, ◌⊎◌, Bool, true, false, Option, Some, None, Result, Ok, Err, OnOk, OnErr, cond, List, [], ◌∷◌, ◌++◌, map, length, refl, sym, ap, ◌∙◌, subst, inl, inr, arith, is_none, length-append, append_assoc}
 use Rattle.std.specs.Prelude.{nat_lt}
 use Rattle.std.specs.Option.{option_map_or}
-use Rattle.std.specs.List.{list_any}
-use Rattle.std.proofs.lemmas.Bool.{cases_Bool, eqb-true, eq-eqb, ltb-false, lt-ltb, le-ltb, and_right, false≢true}
-use Rattle.std.proofs.lemmas.List.{length-map, map-append}
+use Rattle.std.proofs.lemmas.Bool.{cases_Bool, ltb-false, lt-ltb, le-ltb, and_right, false≢true}
+use Rattle.std.proofs.lemmas.List.{map-append}
 use Rattle.doc_tree.specs.Element.{Element, Document, is_in, is_used, depth_of, parent_of, inclusive_ancestors}
-use Rattle.doc_tree.specs.Shape.{is_bounded}
 use Rattle.doc_tree.specs.Change.{EndsSubtree, IsAdded, IsInserted, new_element}
-use Rattle.doc_tree.specs.Fault.{Answers, child_depth, fault_at_depth, fault_of_add, fault_of_insert, has_parent}
+use Rattle.doc_tree.specs.Fault.{Answers, child_depth, fault_at_depth, fault_of_add, fault_of_insert}
 use Rattle.doc_tree.specs.declared.fault.TreeFault.{TreeFault}
 use Rattle.doc_tree.specs.declared.node.Node.{Node}
 use Rattle.doc_tree.specs.declared.limits.TheConstants.{MAX_DEPTH, MAX_ELEMENTS, MAX_SLOTS}
-use Rattle.doc_tree.specs.Marks.{Kept, Mark, Open, Close, code, opened, has, document_of, element_at, depth_at, is_live, number_above, with_node, IsBelow, IsSound, IsSlotOf, IsEnd, IsLastOf, IsPlaceBelow, IsPlaceBefore, Nests}
+use Rattle.doc_tree.specs.Marks.{Kept, Mark, Open, Close, code, opened, has, document_of, element_at, depth_at, is_live, number_above, with_node, IsSound, IsSlotOf, IsEnd, IsLastOf, IsPlaceBelow, IsPlaceBefore}
 use Rattle.doc_tree.proofs.Links.{first_mark-nil, first_mark-cons}
-use Rattle.doc_tree.proofs.Tours.{opened-append, nests-join, IsSpan}
+use Rattle.doc_tree.proofs.Tours.{opened-append, nests-join}
 use Rattle.doc_tree.proofs.Spans.{ends-span}
 use Rattle.doc_tree.proofs.Sound.{live-opened, elements-sound, length-sound, proper, span-of, depth-sound, element-sound, is_in-slot, split-sound, tree-sound}
 use Rattle.doc_tree.proofs.Trees.{tree-ancestors}

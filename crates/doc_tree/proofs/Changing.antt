@@ -1,17 +1,17 @@
 -- One element of a tour is changed, and keeps its number and its parent.
-use Rattle.std.proofs.Common.{◌≡◌, ◌≢◌, ℕ, ◌+◌, ◌*◌, ◌<◌, ◌≤◌, Bool, true, false, not, eqb, cond, Option, Some, None, Result, Ok, Err, OnOk, OnErr, List, [], ◌∷◌, ◌++◌, map, length, drop, get_or, set, refl, sym, ap, ◌∙◌, subst, inl, inr, arith, is_some}
+use Rattle.std.proofs.Common.{◌≡◌, ◌≢◌, ℕ, ◌≤◌, true, false, eqb, cond, Option, Some, None, List, [], ◌∷◌, map, drop, get_or, refl, sym, ap, ◌∙◌, subst, inl, inr, is_some}
 use Rattle.std.specs.Option.{option_map, option_map_or}
-use Rattle.std.specs.List.{list_any, list_all}
+use Rattle.std.specs.List.{list_all}
 use Rattle.std.proofs.lemmas.Bool.{cases_Bool, eqb-true, eq-eqb, ne_eqb, and_from, and_parts, or_right, false≢true}
-use Rattle.std.proofs.lemmas.List.{length-map, length-set, get_or-set_same, get_or-set_other}
-use Rattle.doc_tree.specs.Element.{Element, Document}
+use Rattle.std.proofs.lemmas.List.{length-set, get_or-set_same, get_or-set_other}
+use Rattle.doc_tree.specs.Element.{Element}
 use Rattle.doc_tree.specs.Shape.{is_bounded}
 use Rattle.doc_tree.specs.Change.{with_change}
 use Rattle.doc_tree.specs.declared.node.Node.{Node}
 use Rattle.doc_tree.specs.declared.limits.TheConstants.{MAX_DEPTH}
-use Rattle.doc_tree.specs.Marks.{Kept, Mark, Open, Close, opened, has, document_of, element_at, depth_at, is_live, number_above, no_element, with_element, slots_in, IsAt, IsBelow, IsSound, IsTour, IsSized, IsFit, IsSlotOf, Nests}
+use Rattle.doc_tree.specs.Marks.{Kept, Mark, Open, Close, opened, has, document_of, element_at, depth_at, is_live, number_above, no_element, with_element, IsAt, IsSound, IsSlotOf, Nests}
 use Rattle.doc_tree.proofs.Numbers.{has-self}
-use Rattle.doc_tree.proofs.Sound.{opened-live, live-opened, elements-sound, slots-sound, same-slot}
+use Rattle.doc_tree.proofs.Sound.{opened-live, elements-sound, same-slot}
 
 -- the element keeps its number and its parent
 pub record KeepsPlace (old new : Element) : Type 0 where

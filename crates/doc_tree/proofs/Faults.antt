@@ -1,11 +1,10 @@
 -- Where a change of an element has no fault.
-use Rattle.std.proofs.Common.{◌≡◌, ℕ, ◌<◌, ◌≤◌, Bool, true, false, not, cond, Option, Some, None, Result, Ok, Err, List, map, length, refl, sym, ap, ◌∙◌, subst}
+use Rattle.std.proofs.Common.{◌≡◌, ℕ, ◌<◌, ◌≤◌, Bool, not, cond, Option, Some, None, Result, Err, List, length, refl, sym, ap, ◌∙◌, subst}
 use Rattle.std.specs.Prelude.{IsOkUnless, nat_lt}
 use Rattle.std.proofs.lemmas.Bool.{lt-ltb, le-ltb}
 use Rattle.doc_tree.specs.declared.fault.TreeFault.{TreeFault}
 use Rattle.doc_tree.specs.declared.fault.TreeFault.TheVariants.{UnknownNode, BoundClasses, NoMemory}
 use Rattle.doc_tree.specs.declared.limits.TheConstants.{MAX_CLASSES}
-use Rattle.doc_tree.specs.Element.{is_in}
 use Rattle.doc_tree.specs.Change.{each_once}
 use Rattle.doc_tree.specs.Fault.{Answers, fault_of_change, fault_of_classes}
 use Rattle.doc_tree.specs.Marks.{Kept, document_of, IsSound, IsSlotOf}

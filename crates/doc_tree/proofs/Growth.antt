@@ -1,12 +1,11 @@
 -- Elements in tree order: how a list of them splits, and where subtrees lie in it.
-use Rattle.std.proofs.Common.{◌≡◌, ℕ, ◌<◌, ◌≤◌, true, false, eqb, Option, Some, None, List, [], ◌∷◌, ◌++◌, length, take, drop, suc, refl, sym, ap, ◌∙◌, subst, inl, inr, arith}
+use Rattle.std.proofs.Common.{◌≡◌, ℕ, true, false, eqb, Option, Some, None, List, [], ◌∷◌, ◌++◌, refl, sym, ap, ◌∙◌, subst, inl, inr}
 use Rattle.std.specs.Option.{option_map_or}
-use Rattle.std.specs.Prelude.{nat_lt}
-use Rattle.std.specs.List.{list_any, prefix_len}
-use Rattle.std.proofs.lemmas.Bool.{cases_Bool, ltb-true, ltb-false, eq-eqb, ne_eqb, or_cases, or_parts, or_from, or_left, or_right, false_from_ne_true, false≢true}
+use Rattle.std.specs.List.{list_any}
+use Rattle.std.proofs.lemmas.Bool.{cases_Bool, eq-eqb, ne_eqb, or_cases, or_parts, or_from, or_left, or_right, false_from_ne_true, false≢true}
 use Rattle.doc_tree.specs.Element.{Element, is_in, chain, reversed_onto}
 use Rattle.doc_tree.specs.Shape.{Follows, IsNext, IsGrown}
-use Rattle.doc_tree.proofs.Chains.{Has, Differ, chain-here, chain-past_all, is_in-chain, chain-kept, chain-ends, chain-linear, chain-shorter, has-end}
+use Rattle.doc_tree.proofs.Chains.{Has, Differ, chain-here, chain-past_all, chain-ends, has-end}
 
 pub onto-append : (xs ys r : List Element) → reversed_onto (xs ++ ys) r ≡ reversed_onto ys (reversed_onto xs r)
 onto-append [] ys r = refl

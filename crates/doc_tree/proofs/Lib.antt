@@ -16,3 +16,4 @@ mod Ordering
 mod Walks
 mod Faults
 mod Names
+mod Keeping

@@ -1,9 +1,9 @@
 -- The links of a list in both directions: splits, writes elsewhere, and a new end.
-use Rattle.std.proofs.Common.{◌≡◌, ◌≢◌, ℕ, ◌+◌, ◌*◌, ◌<◌, ◌≤◌, true, false, eqb, List, [], ◌∷◌, ◌++◌, map, length, get_or, set, zero, suc, refl, sym, ap, ◌∙◌, subst, inl, inr, arith, append_assoc}
-use Rattle.std.proofs.lemmas.Bool.{eqb-true, eq-eqb, ne_eqb, or_parts, or_from, or_left, or_right, false≢true}
+use Rattle.std.proofs.Common.{◌≡◌, ◌≢◌, ℕ, ◌+◌, ◌<◌, ◌≤◌, true, false, eqb, List, [], ◌∷◌, ◌++◌, length, get_or, set, zero, suc, refl, sym, ap, ◌∙◌, subst, arith, append_assoc}
+use Rattle.std.proofs.lemmas.Bool.{eq-eqb, ne_eqb, or_parts, or_from, or_left, or_right, false≢true}
 use Rattle.std.proofs.lemmas.List.{append-nil, length-append, get_or_append_left, set-get_or}
 use Rattle.doc_tree.specs.Marks.{has, marks_until, AreDifferent, IsAt, Leads}
-use Rattle.doc_tree.proofs.Numbers.{has-self, apart_from, absent-parts, absent-from, different-front, different-apart, different-before, different-after, different-cut, at-set_same, at-set_other, at-append, at-seam}
+use Rattle.doc_tree.proofs.Numbers.{apart_from, absent-parts, absent-from, different-front, different-apart, different-before, different-after, different-cut, at-set_same, at-set_other, at-append, at-seam}
 
 pub leads-split : (n p : List ℕ) (a : ℕ) (xs : List ℕ) (m : ℕ) (ys : List ℕ) (b : ℕ) → Leads n p a (xs ++ m ∷ ys) b → Leads n p a xs m × Leads n p m ys b
 leads-split n p a [] m ys b l = ((l.0, l.1), l.2)

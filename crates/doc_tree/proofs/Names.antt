@@ -1,7 +1,7 @@
 -- Each of some texts once.
 use Rattle.std.proofs.Common.{Bor, ◌≡◌, ℕ, ◌+◌, ◌<◌, ◌≤◌, ◌||◌, Bool, true, false, not, cond, List, [], ◌∷◌, ◌++◌, map, filter, length, take, drop, get_or, set, suc, refl, sym, ap, ◌∙◌, subst, inl, inr, arith, length-append, append_assoc, bytes_eq}
 use Rattle.std.specs.List.{list_any}
-use Rattle.std.proofs.lemmas.Bool.{cases_Bool, false≢true, false_from_ne_true}
+use Rattle.std.proofs.lemmas.Bool.{cases_Bool}
 use Rattle.std.proofs.lemmas.List.{append-nil, length-map, length-take, map-append, take-append-drop}
 use Rattle.std.proofs.Math.Seq.{take-suc, take-suc-set}
 use Rattle.std.proofs.lemmas.List.Elements.{filter-append}

@@ -1,22 +1,21 @@
 -- Places in tree order: ranks of marks, and the slots in order.
-use Rattle.std.proofs.Common.{◌≡◌, ◌≢◌, ℕ, ◌+◌, ◌-◌, ◌*◌, ◌/◌, ◌%◌, ◌<◌, ◌≤◌, Bool, true, false, not, eqb, cond, Option, Some, None, List, [], ◌∷◌, ◌++◌, map, length, take, drop, get_or, set, zero, suc, refl, sym, ap, ◌∙◌, subst, inl, inr, arith, is_some, slice_get, length-append, append_assoc}
+use Rattle.std.proofs.Common.{◌≡◌, ℕ, ◌+◌, ◌-◌, ◌*◌, ◌/◌, ◌%◌, ◌<◌, ◌≤◌, Bool, true, false, eqb, cond, Option, Some, None, List, [], ◌∷◌, ◌++◌, map, length, take, get_or, set, zero, suc, refl, sym, ap, ◌∙◌, subst, inl, inr, arith, is_some, slice_get, length-append, append_assoc}
 use Rattle.std.specs.Option.{option_map, option_map_or}
-use Rattle.std.specs.List.{list_any, list_all, position, AllByRecursion, IsDistinct}
-use Rattle.std.proofs.lemmas.Bool.{cases_Bool, cases_lt, eqb-true, eq-eqb, ne_eqb, or_parts, or_left, or_right, false≢true}
+use Rattle.std.specs.List.{position, AllByRecursion, IsDistinct}
+use Rattle.std.proofs.lemmas.Bool.{cases_Bool, cases_lt, eq-eqb, ne_eqb, or_parts, or_left, or_right, false≢true}
 use Rattle.std.proofs.lemmas.List.{length-map, length-set, length-take, map-append, append-nil}
 use Rattle.std.proofs.Math.Seq.{take-suc-set}
 use Rattle.std.proofs.lemmas.Option.{slice_get_read, get_or_from_slice_get}
 use Rattle.doc_tree.proofs.Lists.{is_some-position}
 use Rattle.std.proofs.lemmas.Map.Steps.{length-le_from_distinct_below}
-use Rattle.doc_tree.specs.Element.{Element, Document, is_in, position_of, subtree_end_of, subtree_of}
+use Rattle.doc_tree.specs.Element.{Element, is_in, position_of, subtree_end_of, subtree_of}
 use Rattle.doc_tree.specs.declared.node.Node.{Node}
-use Rattle.doc_tree.specs.declared.limits.TheConstants.{MAX_ELEMENTS}
-use Rattle.doc_tree.specs.Marks.{Kept, Mark, Open, Close, code, opened, has, slots_of, marks_until, slots_in, rank_in, with_ranks, with_order, with_positions, document_of, element_at, depth_at, is_live, no_element, AreDifferent, AreRanks, IsAt, IsCounted, IsSound, IsTour, IsSized, IsFit, IsSlotOf, Leads}
-use Rattle.doc_tree.proofs.Numbers.{has-append, has-self, at-set_same, at-set_other, different-before}
+use Rattle.doc_tree.specs.Marks.{Kept, Mark, Open, Close, code, opened, has, slots_of, marks_until, slots_in, rank_in, with_ranks, with_order, with_positions, document_of, element_at, depth_at, is_live, no_element, AreDifferent, AreRanks, IsAt, IsSound, IsSlotOf, Leads}
+use Rattle.doc_tree.proofs.Numbers.{has-self, at-set_same, at-set_other, different-before}
 use Rattle.doc_tree.proofs.Links.{leads-split, leads-fresh, until-leads}
-use Rattle.doc_tree.proofs.Tours.{opened-append, different-opened, slots_of-codes, IsSpan}
+use Rattle.doc_tree.proofs.Tours.{opened-append, different-opened, slots_of-codes}
 use Rattle.doc_tree.proofs.Spans.{position-span, subtree-span, slots-span}
-use Rattle.doc_tree.proofs.Sound.{opened-live, live-opened, elements-sound, slots-sound, codes-sound, length-sound, count-opened, proper, span-of}
+use Rattle.doc_tree.proofs.Sound.{opened-live, live-opened, elements-sound, slots-sound, codes-sound, count-opened, proper, span-of}
 
 rank-at : (ranks : List ℕ) (i : ℕ) (xs : List Mark) (y : Mark) (ys : List Mark) → AreRanks ranks i (xs ++ y ∷ ys) → get_or ranks (code y) 0 ≡ i + length (opened xs)
 rank-at ranks i [] (Open s) ys r = omega (arith, r.0.is)

@@ -1,21 +1,21 @@
 -- A node is put between the marks of a tour.
-use Rattle.std.proofs.Common.{◌≡◌, ◌≢◌, ℕ, ◌+◌, ◌*◌, ◌<◌, ◌≤◌, ◌||◌, Bool, true, false, not, eqb, Option, Some, None, List, [], ◌∷◌, ◌++◌, map, length, drop, get_or, set, zero, suc, refl, sym, ap, ◌∙◌, subst, inl, inr, arith, is_some, length-append, append_assoc}
-use Rattle.std.specs.Prelude.{nat_lt, ⊤}
+use Rattle.std.proofs.Common.{◌≡◌, ℕ, ◌+◌, ◌*◌, ◌<◌, ◌≤◌, ◌||◌, Bool, true, false, eqb, Option, Some, None, List, [], ◌∷◌, ◌++◌, map, length, drop, get_or, zero, suc, refl, sym, ap, ◌∙◌, subst, inl, inr, arith, is_some, length-append}
+use Rattle.std.specs.Prelude.{nat_lt}
 use Rattle.std.specs.Option.{option_map_or}
-use Rattle.std.specs.List.{list_any, list_all}
-use Rattle.std.proofs.lemmas.Bool.{cases_Bool, cases_order, eqb-true, eq-eqb, ne_eqb, lt-ltb, and_from, and_parts, or_cases, or_parts, or_from, or_left, or_right, false≢true}
-use Rattle.std.proofs.lemmas.List.{length-map, length-set, map-append, append-nil, get_or_append_left}
+use Rattle.std.specs.List.{list_all}
+use Rattle.std.proofs.lemmas.Bool.{cases_order, eq-eqb, ne_eqb, lt-ltb, and_from, and_parts, or_parts, or_from, or_left, or_right, false≢true}
+use Rattle.std.proofs.lemmas.List.{length-set, map-append, append-nil, get_or_append_left}
 use Rattle.std.proofs.lemmas.List.Folds.{list_all-append}
 use Rattle.std.proofs.Math.Seq.{get_or-append_seam}
-use Rattle.doc_tree.specs.Element.{Element, Document}
+use Rattle.doc_tree.specs.Element.{Element}
 use Rattle.doc_tree.specs.Shape.{is_bounded}
 use Rattle.doc_tree.specs.declared.node.Node.{Node}
 use Rattle.doc_tree.specs.declared.limits.TheConstants.{MAX_DEPTH, MAX_ELEMENTS, MAX_SLOTS}
-use Rattle.doc_tree.specs.Marks.{Kept, Mark, Open, Close, code, opened, has, document_of, element_at, depth_at, is_live, number_above, no_element, with_node, AreDifferent, IsAt, IsBelow, IsSound, IsTour, IsSized, IsFit, Nests, Leads}
-use Rattle.doc_tree.proofs.Numbers.{has-append, has-self, at-append, at-seam, below-at, below-set, below-weaker, different-put, absent-from, different-back}
+use Rattle.doc_tree.specs.Marks.{Kept, Mark, Open, Close, code, opened, has, document_of, element_at, depth_at, is_live, number_above, no_element, with_node, AreDifferent, IsAt, IsBelow, IsSound, IsSized, IsFit, Nests, Leads}
+use Rattle.doc_tree.proofs.Numbers.{has-append, has-self, at-append, at-seam, below-at, below-set, below-weaker, different-put, absent-from}
 use Rattle.doc_tree.proofs.Links.{first_mark, first_mark-nil, first_mark-cons, splice, leads-split, leads-fresh, target_within}
-use Rattle.doc_tree.proofs.Tours.{opened-append, no_code, nests-join, nests-same, below-same, number_above-kept, elements-same, rooted-same, open_was_opened, IsSameAt}
-use Rattle.doc_tree.proofs.Sound.{opened-live, live-opened, elements-sound}
+use Rattle.doc_tree.proofs.Tours.{opened-append, no_code, nests-join, nests-same, number_above-kept, elements-same, rooted-same, open_was_opened, IsSameAt}
+use Rattle.doc_tree.proofs.Sound.{opened-live, elements-sound}
 
 -- an index past the end has the default
 pub get_or-past : (slots : List (Option Node)) (s : ℕ) → length slots ≤ s → get_or slots s None ≡ None

@@ -1,17 +1,17 @@
 -- A slot is taken out of a tour, with those between its marks.
-use Rattle.std.proofs.Common.{◌≡◌, ◌≢◌, ℕ, ◌+◌, ◌-◌, ◌*◌, ◌<◌, ◌≤◌, ◌||◌, Bool, true, false, not, eqb, Option, Some, None, Result, Ok, Err, OnOk, OnErr, IfOk, List, [], ◌∷◌, ◌++◌, map, length, drop, get_or, set, zero, suc, refl, sym, ap, ◌∙◌, subst, inl, inr, arith, is_some, length-append, append_assoc}
+use Rattle.std.proofs.Common.{◌≡◌, ◌≢◌, ℕ, ◌+◌, ◌*◌, ◌<◌, ◌≤◌, ◌||◌, Bool, true, false, not, eqb, Option, None, List, [], ◌∷◌, ◌++◌, map, length, drop, get_or, set, zero, suc, refl, sym, ap, ◌∙◌, subst, inl, inr, arith, is_some, length-append, append_assoc}
 use Rattle.std.specs.Prelude.{nat_lt, filter}
 use Rattle.std.specs.Option.{option_map_or}
-use Rattle.std.specs.List.{list_any, list_all}
-use Rattle.std.proofs.lemmas.Bool.{cases_Bool, eqb-true, eq-eqb, ne_eqb, lt-ltb, and_from, and_parts, or_cases, or_parts, or_from, or_left, or_right, false≢true}
+use Rattle.std.specs.List.{list_all}
+use Rattle.std.proofs.lemmas.Bool.{cases_Bool, eqb-true, eq-eqb, lt-ltb, and_from, and_parts, or_cases, or_parts, or_from, or_left, or_right, false≢true}
 use Rattle.std.proofs.lemmas.List.{length-map, length-set, map-append, get_or-set_other}
 use Rattle.std.proofs.lemmas.List.Folds.{list_all-append}
-use Rattle.doc_tree.specs.Element.{Element, Document, is_inclusive_descendant, subtree_of, numbers_of}
+use Rattle.doc_tree.specs.Element.{Element, is_inclusive_descendant, subtree_of, numbers_of}
 use Rattle.doc_tree.specs.Shape.{is_bounded}
 use Rattle.doc_tree.specs.Change.{without}
 use Rattle.doc_tree.specs.declared.node.Node.{Node}
 use Rattle.doc_tree.specs.declared.limits.TheConstants.{MAX_DEPTH}
-use Rattle.doc_tree.specs.Marks.{Kept, Mark, Open, Close, code, opened, has, slots_of, marks_until, slots_below, cleared, document_of, element_at, depth_at, is_live, number_above, no_element, without_slot, AreDifferent, IsAt, IsBelow, IsSound, IsTour, IsSized, IsFit, IsSlotOf, Nests, Leads}
+use Rattle.doc_tree.specs.Marks.{Kept, Mark, Open, Close, code, opened, has, slots_of, slots_below, cleared, document_of, element_at, depth_at, is_live, no_element, without_slot, AreDifferent, IsAt, IsSound, IsSized, IsFit, Nests, Leads}
 use Rattle.doc_tree.proofs.Numbers.{has-append, has-self, below-at, below-set, different-back, different-apart, different-cut}
 use Rattle.doc_tree.proofs.Links.{cut, leads-split, until-leads}
 use Rattle.doc_tree.proofs.Tours.{opened-append, slots_of-codes, no_code, different-opened, nests-join, nests-same, count-nests, elements-same, rooted-same, open_was_opened, IsSameAt, IsSpan}

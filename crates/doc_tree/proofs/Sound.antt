@@ -1,24 +1,24 @@
 -- What a tree keeps, and the document that it stands for.
-use Rattle.std.proofs.Common.{Bor, option_copied, ◌≡◌, ◌≢◌, ℕ, ◌+◌, ◌*◌, ◌<◌, ◌≤◌, Bool, true, false, not, eqb, Option, Some, None, IfSome, IfNone, List, [], ◌∷◌, ◌++◌, map, length, get_or, zero, suc, refl, sym, ap, ◌∙◌, subst, inl, inr, arith, is_some, length-append}
+use Rattle.std.proofs.Common.{Bor, option_copied, ◌≡◌, ℕ, ◌*◌, ◌<◌, ◌≤◌, Bool, true, false, eqb, Option, Some, None, IfSome, IfNone, List, [], ◌∷◌, ◌++◌, map, length, get_or, refl, sym, ap, ◌∙◌, subst, inl, inr, arith, is_some}
 use Rattle.std.specs.Prelude.{nat_le}
 use Rattle.std.specs.Option.{option_map_or}
-use Rattle.std.specs.List.{list_any, list_all, position}
+use Rattle.std.specs.List.{list_all, position}
 use Rattle.std.proofs.lemmas.Bool.{cases_Bool, eqb-true, eq-eqb, le-leb, leb-true, and_from, and_parts, or_cases, or_left, or_right, false≢true}
-use Rattle.std.proofs.lemmas.List.{length-map, map-append}
+use Rattle.std.proofs.lemmas.List.{length-map}
 use Rattle.std.proofs.lemmas.Option.{slice_get_read, get_or_from_slice_get}
 use Rattle.std.proofs.lemmas.List.Folds.{list_any-append}
 use Rattle.doc_tree.specs.Element.{Element, Document, is_in, is_used, depth_of, element_of, inclusive_ancestors}
 use Rattle.doc_tree.specs.Shape.{IsTree, IsWithinLimits, is_bounded}
 use Rattle.doc_tree.specs.declared.node.Node.{Node}
-use Rattle.doc_tree.specs.declared.limits.TheConstants.{MAX_CLASSES, MAX_DEPTH, MAX_ELEMENTS, MAX_STYLE_BYTES}
-use Rattle.doc_tree.specs.Marks.{Kept, Mark, Open, Close, code, opened, has, slots_of, slots_in, marks_until, document_of, element_at, depth_at, empty_kept, is_live, no_element, number_above, AreDifferent, IsAt, IsSound, IsFit, IsSlotOf, IsNodeOf}
+use Rattle.doc_tree.specs.declared.limits.TheConstants.{MAX_DEPTH}
+use Rattle.doc_tree.specs.Marks.{Kept, Mark, code, opened, has, slots_of, slots_in, marks_until, document_of, element_at, depth_at, empty_kept, is_live, no_element, IsAt, IsSound, IsSlotOf, IsNodeOf}
 use Rattle.doc_tree.proofs.Numbers.{has-self, at-has, at-seam, at-same, different-index}
 use Rattle.doc_tree.proofs.Lists.{splits_at_position, find-none}
 use Rattle.doc_tree.proofs.Links.{until-leads}
 use Rattle.doc_tree.proofs.Trees.{tree-ancestors, tree-parent}
-use Rattle.doc_tree.proofs.Tours.{slots_of-codes, no_code, count-nests, span, open_was_opened, IsSpan}
+use Rattle.doc_tree.proofs.Tours.{slots_of-codes, no_code, count-nests, span, IsSpan}
 use Rattle.doc_tree.proofs.Standing.{IsProper, proper-grown}
-use Rattle.doc_tree.proofs.Spans.{element-span, ancestors-span, elements-span, slots-span}
+use Rattle.doc_tree.proofs.Spans.{element-span, ancestors-span, elements-span}
 
 -- what was read of a slot
 pub read_slot : (slots : List (Option Node)) (s : ℕ) (o : Option Node) → s < length slots → o ≡ get_or slots s o → get_or slots s None ≡ o

@@ -1,18 +1,17 @@
 -- The element of a slot in a tour: where it is found, and what its inclusive descendants are.
-use Rattle.std.proofs.Common.{◌≡◌, ℕ, ◌+◌, ◌*◌, ◌<◌, ◌≤◌, Bool, true, false, not, eqb, Option, Some, None, List, [], ◌∷◌, ◌++◌, map, length, refl, sym, ap, ◌∙◌, subst, inl, inr, arith, length-append, append_assoc}
+use Rattle.std.proofs.Common.{◌≡◌, ℕ, ◌+◌, ◌*◌, Bool, true, false, not, eqb, Some, List, [], ◌∷◌, ◌++◌, map, length, refl, sym, ap, ◌∙◌, subst, inl, inr, append_assoc}
 use Rattle.std.specs.Prelude.{filter}
-use Rattle.std.specs.List.{list_any, position, find}
-use Rattle.std.proofs.lemmas.Bool.{cases_Bool, eq-eqb, or_left, or_right, or_cases, or_parts, or_from, not_from_true, not_from_false, false≢true}
+use Rattle.std.specs.List.{list_any, position}
+use Rattle.std.proofs.lemmas.Bool.{cases_Bool, eq-eqb, or_left, or_parts, or_from, not_from_true, not_from_false, false≢true}
 use Rattle.std.proofs.lemmas.List.{map-append, length-map, append-nil}
-use Rattle.std.proofs.lemmas.List.Folds.{list_any-append}
 use Rattle.std.proofs.lemmas.List.Elements.{filter-append}
 use Rattle.doc_tree.specs.Element.{Element, is_in, element_of, subtree_of, inclusive_ancestors, is_inclusive_descendant}
 use Rattle.doc_tree.specs.Change.{EndsSubtree}
-use Rattle.doc_tree.specs.Marks.{Mark, Open, Close, code, opened, has, AreDifferent, IsBelow, Nests}
+use Rattle.doc_tree.specs.Marks.{Mark, Open, Close, code, opened, has, AreDifferent, Nests}
 use Rattle.doc_tree.proofs.Numbers.{has-append, has-self, absent-parts, different-before, different-after}
 use Rattle.doc_tree.proofs.Lists.{find-split, position-split}
 use Rattle.doc_tree.proofs.Tours.{opened-append, different-opened, nests-join, open_was_opened, IsSpan}
-use Rattle.doc_tree.proofs.Standing.{IsApart, IsProper, Each, IsInside, is_in-slots, ancestors-opened, inside-stack, each-inside, each-outside, each-then, filter-each, filter-none}
+use Rattle.doc_tree.proofs.Standing.{IsProper, Each, IsInside, is_in-slots, ancestors-opened, inside-stack, each-inside, each-outside, each-then, filter-each, filter-none}
 
 -- the last of a list that isn't empty
 record IsLast (P : Element → Type 0) (x : Element) (xs : List Element) : Type 0 where

@@ -1,19 +1,17 @@
 -- The elements of a tour: they are a tree in tree order, and the open slots are the ancestors.
-use Rattle.std.proofs.Common.{◌≡◌, ◌≢◌, ℕ, ◌+◌, ◌*◌, ◌<◌, ◌≤◌, ◌⊎◌, Bool, true, false, not, eqb, Option, Some, None, List, [], ◌∷◌, ◌++◌, map, length, take, drop, get_or, zero, suc, refl, sym, ap, ◌∙◌, subst, inl, inr, arith, is_some, length-append, append_assoc}
-use Rattle.std.specs.Prelude.{filter, IfSome}
+use Rattle.std.proofs.Common.{◌≡◌, ℕ, ◌+◌, ◌*◌, ◌⊎◌, Bool, true, false, eqb, Option, List, [], ◌∷◌, ◌++◌, map, drop, refl, sym, ap, ◌∙◌, subst, inl, inr, arith, is_some, append_assoc}
+use Rattle.std.specs.Prelude.{filter}
 use Rattle.std.specs.Option.{option_map_or}
-use Rattle.std.specs.List.{list_any, list_all}
+use Rattle.std.specs.List.{list_all}
 use Rattle.std.proofs.lemmas.Bool.{cases_Bool, eqb-true, eq-eqb, ne_eqb, and_parts, or_cases, or_parts, or_from, or_left, or_right, false≢true}
 use Rattle.std.proofs.lemmas.List.{map-append}
-use Rattle.std.proofs.lemmas.List.Folds.{list_any-append}
 use Rattle.doc_tree.specs.Element.{Element, is_in, chain, reversed_onto, inclusive_ancestors, is_inclusive_descendant}
-use Rattle.doc_tree.specs.Shape.{Follows, IsNext, IsGrown}
+use Rattle.doc_tree.specs.Shape.{Follows, IsGrown}
 use Rattle.doc_tree.specs.Marks.{Mark, Open, Close, code, opened, has, number_above, AreDifferent, IsBelow, Nests}
-use Rattle.doc_tree.proofs.Numbers.{has-append, has-self, apart_from, absent-parts, different-apart}
-use Rattle.doc_tree.proofs.Lists.{list_any-map}
+use Rattle.doc_tree.proofs.Numbers.{has-append, has-self, different-apart}
 use Rattle.doc_tree.proofs.Chains.{Has, Ends, chain-here, chain-past, is_in-chain, has-end}
 use Rattle.doc_tree.proofs.Growth.{onto-append, is_in-onto_none, grown-back, chain-stays}
-use Rattle.doc_tree.proofs.Tours.{opened-append, different-opened, nests-split, nests-join, open_was_opened}
+use Rattle.doc_tree.proofs.Tours.{opened-append, different-opened, nests-join, open_was_opened}
 
 module _ (el : ℕ → Element) (dep : ℕ → ℕ) where
   -- no two of the slots have elements of one number

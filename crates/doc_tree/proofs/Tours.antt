@@ -1,10 +1,10 @@
 -- Marks that nest: splits, the stack of open slots, and the span of a slot.
-use Rattle.std.proofs.Common.{◌≡◌, ◌≢◌, ℕ, ◌+◌, ◌*◌, ◌-◌, ◌/◌, ◌%◌, ◌<◌, ◌≤◌, true, false, eqb, Option, Some, None, List, [], ◌∷◌, ◌++◌, map, length, zero, suc, refl, sym, ap, ◌∙◌, subst, inl, inr, arith, is_some, length-append, append_assoc}
+use Rattle.std.proofs.Common.{◌≡◌, ℕ, ◌+◌, ◌*◌, ◌-◌, ◌/◌, ◌%◌, ◌<◌, true, false, eqb, Some, List, [], ◌∷◌, ◌++◌, map, length, refl, sym, ap, ◌∙◌, subst, inl, inr, arith, is_some, append_assoc}
 use Rattle.std.specs.List.{list_all}
 use Rattle.std.proofs.lemmas.Bool.{cases_Bool, and_from, and_parts, eqb-true, eq-eqb, ne_eqb, or_cases, or_parts, or_from, or_left, or_right, false≢true}
 use Rattle.doc_tree.specs.Element.{Element}
 use Rattle.doc_tree.specs.Marks.{Mark, Open, Close, code, opened, slots_of, has, number_above, AreDifferent, IsBelow, Nests}
-use Rattle.doc_tree.proofs.Numbers.{has-append, has-self, apart_from}
+use Rattle.doc_tree.proofs.Numbers.{has-self}
 
 pub opened-append : (xs ys : List Mark) → opened (xs ++ ys) ≡ opened xs ++ opened ys
 opened-append [] ys = refl

@@ -6,7 +6,7 @@ use Rattle.std.proofs.lemmas.Bool.{cases_Bool, cases_order, eq-eqb, or_from, or_
 use Rattle.std.proofs.lemmas.List.Folds.{list_any-append}
 use Rattle.doc_tree.specs.Element.{Element, Document, is_in, is_used, is_inclusive_descendant, chain, reversed_onto, inclusive_ancestors, position_of}
 use Rattle.doc_tree.specs.Shape.{Follows, IsNext, IsGrown}
-use Rattle.doc_tree.specs.Change.{EndsSubtree, IsAdded, IsLastPlace}
+use Rattle.doc_tree.specs.Change.{EndsSubtree, IsAdded, IsInserted, IsLastPlace, new_element}
 use Rattle.doc_tree.proofs.Chains.{Differ, chain-here, chain-past_all, is_in-chain}
 use Rattle.doc_tree.proofs.Growth.{onto-append, is_in-onto_kept, is_in-onto_front, is_in-onto_there, grown-front, grown-back, differ-onto, later_differ, chain-stays, there_itself, parent_there, outside_rest, NoneWithin}
 use Rattle.doc_tree.proofs.Lists.{same_parts, position-split}
@@ -167,3 +167,9 @@ others-added old new child added g =
 pub used-added : (old new : Document) (child : Element) (n : ℕ) → IsAdded old new child → is_used n old ≡ true → is_used n new ≡ true
 used-added old new child n added h =
     ap (list_any (eqb n)) added.used ∙ (list_any-append (eqb n) old.used (child.number ∷ []) ∙ or_left _ _ h)
+
+pub others-inserted : (old new : Document) (n sibling : ℕ) (tag : List ℕ) (put : IsInserted old new n sibling tag) → IsGrown [] new.elements → filter (λ e. not (eqb e.number n)) new.elements ≡ old.elements
+others-inserted old new n sibling tag put g =
+    let c = new_element n put.next.parent tag in
+    let absent = or_parts _ _ (sym (list_any-append (λ (x : Element). eqb x.number n) put.before (put.next ∷ put.after)) ∙ tree-differ new.elements put.before (put.next ∷ put.after) c g put.is) in
+    ap (filter (λ (e : Element). not (eqb e.number n))) put.is ∙ (filter-around n put.before (put.next ∷ put.after) c refl absent.0 absent.1 ∙ sym put.was)

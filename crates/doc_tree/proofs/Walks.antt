@@ -1,8 +1,8 @@
 -- A step along the marks.
-use Rattle.std.proofs.Common.{◌≡◌, ◌≢◌, ℕ, ◌+◌, ◌-◌, ◌*◌, ◌/◌, ◌%◌, ◌<◌, ◌≤◌, Bool, true, false, eqb, cond, Option, Some, None, List, [], ◌∷◌, ◌++◌, length, get_or, set, zero, suc, refl, sym, ap, ◌∙◌, subst, inl, inr, arith, slice_get, append_assoc}
+use Rattle.std.proofs.Common.{◌≡◌, ◌≢◌, ℕ, ◌+◌, ◌-◌, ◌/◌, ◌%◌, ◌<◌, ◌≤◌, Bool, true, false, eqb, cond, Some, List, [], ◌∷◌, ◌++◌, length, get_or, set, zero, suc, refl, sym, ap, ◌∙◌, inl, inr, arith, slice_get, append_assoc}
 use Rattle.std.proofs.lemmas.Bool.{cases_Bool, eqb-true, eq-eqb, ne_eqb}
 use Rattle.std.proofs.lemmas.List.{length-set}
-use Rattle.doc_tree.specs.Marks.{marks_until, slots_of, with_ranks, with_order}
+use Rattle.doc_tree.specs.Marks.{marks_until, slots_of, with_order}
 
 pub until-step : (next : List ℕ) (last most step m : ℕ) → step < most → m ≢ last → marks_until next last (most - step) m ≡ m ∷ marks_until next last (most - (step + 1)) (get_or next m 0)
 until-step next last most step m h other =

@@ -67,3 +67,10 @@ each_once (x ∷ xs) = x ∷ filter (λ y. not (bytes_eq x y)) (each_once xs)
 -- the document in which element n has these classes, each once
 abbrev pub with_classes : Document → ℕ → List (List ℕ) → Document
 with_classes d n names = with_change d n (λ e. record e { classes = each_once names })
+
+-- the new document is the old one without this unbroken stretch of its elements
+pub record IsCut (old new : Document) (stretch : List Element) : Type 0 where
+  pub before : List Element
+  pub after : List Element
+  pub was : old.elements ≡ before ++ stretch ++ after
+  pub is : new.elements ≡ before ++ after

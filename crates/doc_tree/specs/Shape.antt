@@ -1,6 +1,6 @@
 -- What makes a list of elements a tree in tree order.
-use Rattle.std.specs.Prelude.{◌≡◌, ℕ, ◌≤◌, ◌&&◌, nat_eq, nat_le, Bool, false, List, [], ◌∷◌, length, IsTrue, IsSomeAnd, ⊤, Option, None}
-use Rattle.std.specs.List.{list_any, list_all}
+use Rattle.std.specs.Prelude.{◌≡◌, ℕ, ◌≤◌, ◌&&◌, nat_le, Bool, false, List, [], ◌∷◌, length, IsTrue, IsSomeAnd, ⊤, Option, None}
+use Rattle.std.specs.List.{list_all}
 use Rattle.doc_tree.specs.declared.limits.TheConstants.{MAX_CLASSES, MAX_DEPTH, MAX_ELEMENTS, MAX_STYLE_BYTES}
 use Rattle.doc_tree.specs.Element.{Element, Document, is_in, is_used, chain, depth_of}
 

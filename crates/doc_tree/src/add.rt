@@ -5,7 +5,7 @@ ghost use Rattle.std.specs.List.{list_any};
 ghost use Rattle.doc_tree.specs.Element.{is_in};
 ghost use Rattle.doc_tree.specs.Change.{new_element, IsAdded, IsInserted};
 ghost use Rattle.doc_tree.specs.Fault.{Answers, fault_at_depth, fault_of_add, fault_of_insert, has_parent};
-ghost use Rattle.doc_tree.specs.Marks.{depth_at, document_of, element_at, is_live, kept_of, with_node, HasRoom, IsPlaceBefore, IsPlaceBelow, IsSized, IsSound};
+ghost use Rattle.doc_tree.specs.Marks.{depth_at, document_of, element_at, has, is_live, kept_of, with_node, HasRoom, IsPlaceBefore, IsPlaceBelow, IsSized, IsSound};
 
 use crate::element::Element;
 use crate::fault::TreeFault;
@@ -87,12 +87,20 @@ fn parent_in(nodes: &Nodes, slot: usize) -> Option<u32>
     }
 }
 
+/// Whether the number was used before.
+fn is_used(nodes: &Nodes, n: u32) -> bool
+    requires { IsSound (kept_of nodes.now) }
+    ensures { result ≡ has n nodes.now.used.keys }
+{
+    nodes.used.contains(&n)
+}
+
 /// The first fault of a new element `n` at this depth.
 fn fault_at(nodes: &Nodes, n: u32, depth: u32, is_root: bool) -> Option<TreeFault>
     requires { IsSound (kept_of nodes.now) }
     ensures { result ≡ fault_at_depth (document_of (kept_of nodes.now)) n depth is_root }
 {
-    if nodes.used.contains(&n) {
+    if is_used(nodes, n) {
         return Some(TreeFault::NodeTaken);
     }
     if nodes.len + 1 > MAX_ELEMENTS {

@@ -3,8 +3,8 @@
 ghost use Rattle.std.specs.Prelude.{◌≡◌, ℕ, ◌==◌, not, true, false, List, [], ◌∷◌, ◌++◌, length, IsTrue, ◌≢◌, ◌↔◌, Result, Option};
 ghost use Rattle.std.specs.List.{filter, list_any};
 ghost use Rattle.std.specs.Option.{option_map_or};
-ghost use Rattle.doc_tree.specs.Change.{IsAdded};
-ghost use Rattle.doc_tree.specs.Element.{Document, Element, is_in, is_used, inclusive_ancestors, is_inclusive_descendant, position_of};
+ghost use Rattle.doc_tree.specs.Change.{without, IsAdded, IsCut, IsInserted};
+ghost use Rattle.doc_tree.specs.Element.{Document, Element, is_in, is_used, inclusive_ancestors, is_inclusive_descendant, position_of, subtree_of};
 ghost use Rattle.doc_tree.specs.Fault.{Answers};
 ghost use Rattle.doc_tree.specs.Shape.{IsTree};
 ghost use Rattle.doc_tree.specs.declared.fault.TreeFault.{TreeFault};
@@ -62,6 +62,40 @@ pub fn added_position()
 pub fn others_keep_order()
     ensures { (old new : Document) (child : Element) → IsAdded old new child → IsTree new
         → filter (λ e. not (e.number == child.number)) new.elements ≡ old.elements }
+{}
+
+/// The same of an insert.
+pub fn others_keep_order_beside()
+    ensures { (old new : Document) (n sibling : ℕ) (tag : List ℕ) → IsInserted old new n sibling tag → IsTree new
+        → filter (λ e. not (e.number == n)) new.elements ≡ old.elements }
+{}
+
+/// An add leaves the inclusive ancestors of all elements that were there.
+pub fn adds_keep_ancestors()
+    ensures { (old new : Document) (child : Element) (m : ℕ) → IsTree old → IsTree new → IsAdded old new child
+        → IsTrue (is_in m old.elements) → inclusive_ancestors new.elements m ≡ inclusive_ancestors old.elements m }
+{}
+
+/// So does an insert.
+pub fn inserts_keep_ancestors()
+    ensures { (old new : Document) (n sibling : ℕ) (tag : List ℕ) (m : ℕ) → IsTree old → IsTree new → IsInserted old new n sibling tag
+        → IsTrue (is_in m old.elements) → inclusive_ancestors new.elements m ≡ inclusive_ancestors old.elements m }
+{}
+
+/// What is removed with an element is one unbroken stretch of the elements in tree order.
+pub fn removed_elements_stand_together()
+    ensures { (d : Document) (n : ℕ) → IsTree d → IsTrue (is_in n d.elements) → IsCut d (without d n) (subtree_of d.elements n) }
+{}
+
+/// A removal leaves the inclusive ancestors of all elements that are left.
+pub fn removals_keep_ancestors()
+    ensures { (d : Document) (n m : ℕ) → IsTree d → IsTrue (is_in n d.elements) → IsTrue (is_in m (without d n).elements)
+        → inclusive_ancestors (without d n).elements m ≡ inclusive_ancestors d.elements m }
+{}
+
+/// The number of a removed element stays used, so that no other gets it.
+pub fn removed_numbers_stay_used()
+    ensures { (d : Document) (n m : ℕ) → IsTree d → IsTrue (is_in m d.elements) → IsTrue (is_used m (without d n)) }
 {}
 
 /// A used number stays used.

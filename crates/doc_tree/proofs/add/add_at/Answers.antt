@@ -1,4 +1,4 @@
-use Rattle.std.proofs.Common.{sym, ap, ◌∙◌, arith}
+use Rattle.std.proofs.Common.{sym, ap, arith}
 use Rattle.doc_tree.specs.Marks.{kept_of, document_of, Kept}
 use Rattle.doc_tree.proofs.Adding.{faultless}
 use Rattle.doc_tree.proofs.Sound.{length-sound}

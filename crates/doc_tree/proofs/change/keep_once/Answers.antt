@@ -1,5 +1,4 @@
-use Rattle.std.proofs.Common.{Bor, ◌≡◌, ◌∙◌, ◌≤◌, ◌+◌, ℕ, List, [], take, set, get_or, length, sym, ap, arith}
-use Rattle.doc_tree.specs.Change.{each_once}
+use Rattle.std.proofs.Common.{Bor, ◌∙◌, ◌+◌, ℕ, List, [], take, ap, arith}
 use Rattle.doc_tree.proofs.Names.{texts, name-put, name-known, name-many}
 use Rattle.doc_tree.proofs.change.keep_once.Goals.{then-not-is_among+else-count-kept, else-not-is_among}
 use Rattle.doc_tree.proofs.change.keep_once.Goals as goal

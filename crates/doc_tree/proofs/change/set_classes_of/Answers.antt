@@ -1,12 +1,11 @@
-use Rattle.std.proofs.Common.{Bor, ◌≡◌, ◌≤◌, ◌∙◌, sym, ap, subst, length, map, List, ℕ, Ok, Err, refl}
+use Rattle.std.proofs.Common.{◌≡◌, ◌≤◌, ◌∙◌, sym, ap, subst, length, map, List, ℕ, Ok, Err, refl}
 use Rattle.std.specs.String.{string_bytes}
 use Rattle.std.proofs.lemmas.Bool.{le-leb, and_from, and_parts}
 use Rattle.doc_tree.specs.declared.fault.TreeFault.TheVariants.{NoMemory}
 use Rattle.doc_tree.specs.declared.limits.TheConstants.{MAX_CLASSES}
 use Rattle.doc_tree.specs.Change.{each_once, with_change}
 use Rattle.doc_tree.specs.Element.{Element}
-use Rattle.doc_tree.specs.Shape.{is_bounded}
-use Rattle.doc_tree.specs.Marks.{kept_of, document_of, element_at, IsSound}
+use Rattle.doc_tree.specs.Marks.{kept_of, document_of, IsSound}
 use Rattle.doc_tree.proofs.Faults.{classes-answer, classes-many}
 use Rattle.doc_tree.proofs.Names.{texts, names-few}
 use Rattle.doc_tree.proofs.Changing.{changed-sound, document-changed}

@@ -1,14 +1,13 @@
-use Rattle.std.proofs.Common.{◌≡◌, ◌≤◌, ◌∙◌, sym, ap, subst, length, List, ℕ, Option, Ok, Err, refl, option_map}
+use Rattle.std.proofs.Common.{◌≤◌, ◌∙◌, sym, ap, subst, length, List, ℕ, Ok, Err, refl}
 use Rattle.std.specs.String.{string_bytes}
 use Rattle.std.proofs.lemmas.Bool.{le-leb, and_from, and_parts}
 use Rattle.doc_tree.specs.declared.fault.TreeFault.TheVariants.{NoMemory}
 use Rattle.doc_tree.specs.declared.limits.TheConstants.{MAX_STYLE_BYTES}
-use Rattle.doc_tree.specs.Change.{with_style, with_id}
+use Rattle.doc_tree.specs.Change.{with_style}
 use Rattle.doc_tree.specs.Element.{Element}
-use Rattle.doc_tree.specs.Shape.{is_bounded}
-use Rattle.doc_tree.specs.Marks.{kept_of, document_of, element_at, IsSound}
+use Rattle.doc_tree.specs.Marks.{kept_of, document_of, IsSound}
 use Rattle.doc_tree.proofs.Faults.{change-answer}
-use Rattle.doc_tree.proofs.Changing.{KeepsPlace, changed-sound, document-changed}
+use Rattle.doc_tree.proofs.Changing.{changed-sound, document-changed}
 use Rattle.doc_tree.proofs.change.set_style_of.Goals as goal
 
 pub returns-in_default-from_str-clause-fault : goal.returns-in_default-from_str-clause-fault

@@ -1,6 +1,6 @@
-use Rattle.std.proofs.Common.{true, ◌≡◌, ◌≤◌, ◌∙◌, ◌*◌, sym, ap, length, get_or, subst, ℕ, List, arith}
-use Rattle.doc_tree.specs.Marks.{Kept, kept_of, marks_until, slots_of, with_positions, with_ranks, with_order, IsSound}
-use Rattle.doc_tree.proofs.Ordering.{room, counted-sound, length-slots, len-room, read-order}
+use Rattle.std.proofs.Common.{true, ◌≡◌, ◌∙◌, ◌*◌, sym, ap, length, get_or, subst, ℕ, List, arith}
+use Rattle.doc_tree.specs.Marks.{kept_of, marks_until, slots_of, with_positions, with_ranks, with_order, IsSound}
+use Rattle.doc_tree.proofs.Ordering.{counted-sound, length-slots, len-room, read-order}
 use Rattle.doc_tree.proofs.order.count_positions.Goals as goal
 
 pub put_ranks-requires-clause-room : goal.put_ranks-requires-clause-room

@@ -1,7 +1,6 @@
-use Rattle.std.proofs.Common.{◌≡◌, ◌∙◌, ◌<◌, sym, ap, ℕ, Some, None, Option, arith, length, slice_get}
+use Rattle.std.proofs.Common.{◌∙◌, sym, ap, ℕ, Option}
 use Rattle.std.specs.Option.{option_map}
 use Rattle.std.proofs.lemmas.Option.{slice_get-map}
-use Rattle.doc_tree.specs.Element.{Element}
 use Rattle.doc_tree.specs.Marks.{kept_of, slots_in, element_at}
 use Rattle.doc_tree.proofs.Ordering.{slot-live, slot-within, live-element}
 use Rattle.doc_tree.proofs.order.element_in_order.Goals as goal

@@ -1,4 +1,4 @@
-use Rattle.std.proofs.Common.{◌≡◌, ◌∙◌, ◌<◌, ◌^◌, sym, ap, ℕ, Some, arith}
+use Rattle.std.proofs.Common.{◌∙◌, sym, ap, ℕ, Some, arith}
 use Rattle.doc_tree.specs.Marks.{kept_of, rank_in}
 use Rattle.doc_tree.proofs.Sound.{length-sound}
 use Rattle.doc_tree.proofs.Ordering.{position-sound, position-small, not-placed}

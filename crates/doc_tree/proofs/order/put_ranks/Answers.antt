@@ -1,4 +1,4 @@
-use Rattle.std.proofs.Common.{◌≡◌, ◌∙◌, ◌<◌, ◌≤◌, ◌+◌, ◌-◌, ◌/◌, ◌%◌, cond, eqb, sym, ap, set, get_or, ℕ, List, length, arith}
+use Rattle.std.proofs.Common.{◌∙◌, ◌+◌, ◌-◌, ◌/◌, ◌%◌, cond, eqb, sym, ap, get_or, ℕ, List, length, arith}
 use Rattle.std.proofs.lemmas.List.{length-set}
 use Rattle.doc_tree.specs.Marks.{marks_until, with_ranks, with_order}
 use Rattle.doc_tree.proofs.Numbers.{below-at}

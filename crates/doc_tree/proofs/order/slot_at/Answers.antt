@@ -1,5 +1,5 @@
-use Rattle.std.proofs.Common.{◌≡◌, ◌∙◌, ◌<◌, sym, ap, ℕ, Some, arith, length, get_or}
-use Rattle.std.proofs.lemmas.Option.{slice_get_past, slice_get_read, get_or_from_slice_get}
+use Rattle.std.proofs.Common.{◌∙◌, ◌<◌, sym, ap, ℕ, Some, arith, length}
+use Rattle.std.proofs.lemmas.Option.{slice_get_past}
 use Rattle.doc_tree.specs.Marks.{kept_of, slots_in}
 use Rattle.doc_tree.proofs.Ordering.{len-room, slot-in-order, length-slots, read-order}
 use Rattle.doc_tree.proofs.order.slot_at.Goals as goal

@@ -1,4 +1,4 @@
-use Rattle.std.proofs.Common.{◌≡◌, ◌<◌, ◌≤◌, ◌+◌, ◌-◌, length, slice_get}
+use Rattle.std.proofs.Common.{◌≡◌, ◌<◌, ◌-◌, length, slice_get}
 use Rattle.doc_tree.specs.Marks.{marks_until, slots_of}
 use Rattle.doc_tree.proofs.order.slot_until.Given as goal
 

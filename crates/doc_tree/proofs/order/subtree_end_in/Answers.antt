@@ -1,4 +1,4 @@
-use Rattle.std.proofs.Common.{◌≡◌, ◌∙◌, ◌+◌, sym, ap, ℕ, Some, Option, length, arith}
+use Rattle.std.proofs.Common.{◌∙◌, ◌+◌, sym, ap, ℕ, Some, Option, length, arith}
 use Rattle.std.specs.Option.{option_map}
 use Rattle.doc_tree.specs.Element.{subtree_of}
 use Rattle.doc_tree.specs.Marks.{kept_of, document_of, rank_in}

@@ -1,7 +1,7 @@
-use Rattle.std.proofs.Common.{◌≡◌, ◌∙◌, ◌≤◌, true, sym, ap, subst, length, List, ℕ, arith}
+use Rattle.std.proofs.Common.{◌≡◌, ◌∙◌, true, ap, length, List, ℕ, arith}
 use Rattle.std.specs.Prelude.{nat_lt}
 use Rattle.std.specs.List.{list_all}
-use Rattle.doc_tree.specs.Marks.{kept_of, slots_below}
+use Rattle.doc_tree.specs.Marks.{kept_of}
 use Rattle.doc_tree.proofs.Removing.{below-within, below-many}
 use Rattle.doc_tree.proofs.remove.cut.Goals as goal
 

@@ -1,11 +1,10 @@
-use Rattle.std.proofs.Common.{◌≡◌, ◌∙◌, true, sym, ap, subst, length, map, get_or, List, ℕ, Result, Ok, Err, Vec, Global, refl, arith}
+use Rattle.std.proofs.Common.{◌≡◌, ◌∙◌, true, sym, ap, subst, length, map, get_or, List, ℕ, Ok, Err, Vec, Global, refl}
 use Rattle.std.specs.Prelude.{nat_lt}
 use Rattle.std.specs.List.{list_all}
-use Rattle.doc_tree.specs.declared.fault.TreeFault.{TreeFault}
 use Rattle.doc_tree.specs.declared.fault.TreeFault.TheVariants.{NoMemory}
 use Rattle.doc_tree.specs.Change.{without}
 use Rattle.doc_tree.specs.Element.{numbers_of, subtree_of}
-use Rattle.doc_tree.specs.Marks.{Kept, kept_of, document_of, slots_below, IsSound}
+use Rattle.doc_tree.specs.Marks.{kept_of, document_of, IsSound}
 use Rattle.doc_tree.proofs.Faults.{change-answer}
 use Rattle.doc_tree.proofs.Removing.{below-within, cut-sound, document-cut, numbers-gone}
 use Rattle.doc_tree.proofs.remove.remove_nodes.Goals as goal

@@ -1,4 +1,4 @@
-use Rattle.std.proofs.Common.{◌∙◌, ap, sym, is_some, subst}
+use Rattle.std.proofs.Common.{◌∙◌, ap}
 use Rattle.doc_tree.specs.Element.{Document, is_in}
 use Rattle.doc_tree.specs.Marks.{kept_of}
 use Rattle.doc_tree.proofs.Sound.{slot-test}

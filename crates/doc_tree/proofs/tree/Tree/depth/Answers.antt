@@ -1,6 +1,6 @@
-use Rattle.std.proofs.Common.{◌∙◌, ◌≡◌, ap, sym, None, Option, ℕ, subst}
-use Rattle.std.specs.Option.{option_map, option_map_or}
-use Rattle.doc_tree.specs.Element.{Document, Element, depth_of, element_of}
+use Rattle.std.proofs.Common.{ap, sym, Option}
+use Rattle.std.specs.Option.{option_map}
+use Rattle.doc_tree.specs.Element.{Element, depth_of}
 use Rattle.doc_tree.proofs.Sound.{not-found-in}
 use Rattle.doc_tree.proofs.tree.Tree.depth.Goals as goal
 
