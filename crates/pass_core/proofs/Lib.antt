@@ -1,0 +1,6 @@
+pub mod ListsByElement
+pub mod Planned
+pub mod Passing
+pub mod Schedules
+pub mod Orders
+pub mod Swaps

@@ -1,0 +1,21 @@
+//! Floor: passes. The pass over a tree in its pure form: elements are updated parents before children, in whatever
+//! order. Knows no CSS, no thread and no tree but the plan of a pass.
+//!
+//! `run_schedule(alloc, &work, &plan, &mut state, &events)?` carries out the events in turn.
+#![tactic(auto)]
+
+mod event;
+mod laws;
+mod plan;
+mod state;
+mod step;
+mod update;
+mod values;
+mod work;
+
+pub use event::CoreEvent;
+pub use laws::{events_commute, one_result, schedules_agree};
+pub use plan::{Place, Plan};
+pub use state::{CoreState, run_schedule};
+pub use step::Step;
+pub use work::TreeWork;

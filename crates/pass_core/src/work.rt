@@ -1,0 +1,33 @@
+//! Work on a tree.
+
+ghost use Rattle.std.specs.Prelude.{◌≡◌, IfOk};
+ghost use Rattle.pass_core.specs.Work.{Meaning};
+
+use crate::step::Step;
+use std::alloc::{AllocError, Global};
+
+/// The update of one element, from its entry and from what its parent's update hands down.
+pub trait TreeWork: Send + Sync + Drop {
+    /// What is kept of an element.
+    type Entry: Send + Sync + Drop;
+
+    /// What an update hands down to the element's children.
+    type Down: Copy + Send + Sync;
+
+    /// What the work does.
+    ghost meaning: { Self → Meaning Self.Entry Self.Down };
+
+    /// The outcome of the element's update.
+    fn update(
+        &self,
+        alloc: Global,
+        element: u32,
+        entry: &Self::Entry,
+        down: &Self::Down,
+    ) -> Result<Step<Self::Entry, Self::Down>, AllocError>
+        ensures { IfOk result (λ step. step ≡ (meaning self.now).outcome element entry.now down.now) };
+
+    /// What is handed down to an element whose parent isn't in the plan. Takes no memory.
+    fn top(&self) -> Self::Down
+        ensures { result ≡ (meaning self.now).top };
+}

@@ -1,0 +1,5 @@
+//! Floor: passes. Tests of the crates of passes.
+#![tactic(auto)]
+
+#[cfg(test)]
+mod schedules;

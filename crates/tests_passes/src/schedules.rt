@@ -1,0 +1,122 @@
+//! Schedules of a plan of three elements: a root and its two children.
+
+ghost use Rattle.std.specs.Prelude.{◌≡◌, ℕ, [], false, IfOk};
+ghost use Rattle.pass_core.specs.Passes.{are_allowed};
+ghost use Rattle.pass_core.specs.declared.step.Step.TheVariants.{Kept};
+
+use pass_core::{CoreEvent, CoreState, Place, Plan, Step, TreeWork, run_schedule};
+use std::alloc::{AllocError, Global};
+use std::test::Fail;
+
+/// Each element's entry goes to its children, and it takes what it is handed for its own, unless that is what it has.
+#[derive(Drop)]
+struct Handing {
+    top: u32,
+}
+
+impl TreeWork for Handing {
+    ghost use Rattle.pass_core.specs.declared.step.Step.TheVariants.{Updated, Kept};
+    ghost use Rattle.std.specs.Prelude.{◌==◌, if◌then◌else◌};
+
+    type Entry = u32;
+
+    type Down = u32;
+
+    ghost meaning = { λ w. record { outcome = λ element entry down. if entry == down then Kept down else Updated down entry; top = w.top } };
+
+    fn update(
+        &self,
+        _alloc: Global,
+        _element: u32,
+        entry: &u32,
+        down: &u32,
+    ) -> Result<Step<u32, u32>, AllocError> {
+        Ok(if *entry == *down {
+            Step::Kept(*down)
+        } else {
+            Step::Updated(*down, *entry)
+        })
+    }
+
+    fn top(&self) -> u32 {
+        self.top
+    }
+}
+
+const PLACES: [Place; 3] = [
+    Place {
+        element: 1,
+        parent: None,
+        end: 3,
+    },
+    Place {
+        element: 2,
+        parent: Some(0),
+        end: 2,
+    },
+    Place {
+        element: 3,
+        parent: Some(0),
+        end: 3,
+    },
+];
+
+const OPENING: [(u32, u32); 4] = [(3, 10), (1, 10), (9, 90), (2, 20)];
+
+/// The younger child first, after an update of it that found no memory.
+const YOUNGER_FIRST: [CoreEvent; 4] = [
+    CoreEvent::Update(1),
+    CoreEvent::Refuse(3),
+    CoreEvent::Update(3),
+    CoreEvent::Update(2),
+];
+
+const OLDER_FIRST: [CoreEvent; 3] = [
+    CoreEvent::Update(1),
+    CoreEvent::Update(2),
+    CoreEvent::Update(3),
+];
+
+const CHILD_FIRST: [CoreEvent; 2] = [CoreEvent::Update(2), CoreEvent::Update(1)];
+
+/// A child may not come before its parent.
+fn child_waits()
+    ensures { (top : ℕ) → are_allowed (record { outcome = λ element entry down. Kept down; top = top }) PLACES (record { entries = OPENING; done = [] }) CHILD_FIRST ≡ false }
+{}
+
+fn three(alloc: Global) -> Result<Plan, AllocError>
+    ensures { IfOk result (λ plan. plan.places.items ≡ PLACES) }
+{
+    Ok(Plan {
+        places: Vec::from_slice(alloc, &PLACES)?,
+    })
+}
+
+fn begun(alloc: Global) -> Result<CoreState<Handing>, AllocError>
+    ensures { IfOk result (λ state. state ≡ record { entries = OPENING; done = [] }) }
+{
+    CoreState::begin(alloc, Vec::from_slice(alloc, &OPENING)?)
+}
+
+#[test]
+fn either_child_may_come_first(rt: HostRuntime) -> Result<(), Fail> {
+    child_waits();
+    let work = Handing { top: 7 };
+    let plan = three(rt.alloc())?;
+    let mut older = begun(rt.alloc())?;
+    run_schedule(rt.alloc(), &work, &plan, &mut older, &OLDER_FIRST)?;
+    let mut younger = begun(rt.alloc())?;
+    run_schedule(rt.alloc(), &work, &plan, &mut younger, &YOUNGER_FIRST)?;
+    for (element, entry, down) in [
+        (1, 7, Some(10)),
+        (2, 10, Some(20)),
+        (3, 10, Some(10)),
+        (9, 90, None),
+    ] {
+        assert!(rt; older.entry(element).copied() == Some(entry));
+        assert!(rt; younger.entry(element).copied() == Some(entry));
+        assert!(rt; older.down(element).copied() == down);
+        assert!(rt; younger.down(element).copied() == down);
+    }
+    Ok(())
+}
