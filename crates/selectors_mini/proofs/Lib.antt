@@ -3,3 +3,5 @@ pub mod Runs
 pub mod Sound
 pub mod Complete
 pub mod Selectors
+pub mod Climbs
+pub mod Fitting

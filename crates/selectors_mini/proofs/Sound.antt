@@ -10,7 +10,7 @@ use Rattle.selectors_mini.specs.declared.combinator.Combinator.{Combinator}
 use Rattle.selectors_mini.specs.declared.combinator.Combinator.TheVariants.{Child, Descendant}
 use Rattle.selectors_mini.specs.declared.reader.Place.{Place}
 use Rattle.selectors_mini.specs.declared.reader.Place.TheVariants.{Start, Inside, Point, Spaced, Below}
-use Rattle.selectors_mini.specs.declared.reader.Step.{Step}
+use Rattle.selectors_mini.specs.declared.reader.Advance.{Advance}
 use Rattle.selectors_mini.proofs.Lists.{and_then_some, map_some}
 
 -- behind the compound d the parts end a selector, which with d has these compounds
@@ -148,7 +148,7 @@ ends_here c parts cs tail = record { front = []; rest = parts; whole = c; parts_
 -- ---- steps
 
 -- where the part leads, and from there on, is sound
-abbrev Leads : Place → CompoundSelector → SelectorPart → Step → Type 0
+abbrev Leads : Place → CompoundSelector → SelectorPart → Advance → Type 0
 Leads place c part s = (parts : List SelectorPart) (cs : List CompoundSelector) → Sound s.place s.compound parts cs
     → Sound place c (part ∷ parts) (option_to_list s.ended ++ cs)
 

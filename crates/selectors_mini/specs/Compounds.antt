@@ -1,5 +1,5 @@
 -- Compound selectors, and what a selector of them counts (Selectors 4, sections 3.1 and 17).
-use Rattle.std.specs.Prelude.{ℕ, ◌-◌, ◌≤◌, List, [], ◌∷◌, ◌++◌, length, sum_by, count_by, is_some, slice_get, Option, None, Some}
+use Rattle.std.specs.Prelude.{◌≡◌, ℕ, ◌-◌, ◌≤◌, List, [], ◌∷◌, ◌++◌, length, sum_by, count_by, is_some, slice_get, IsPermutation, Option, None, Some}
 use Rattle.selectors_mini.specs.declared.combinator.Combinator.{Combinator}
 
 -- a compound selector: the type that it names, where it names one, its ids and its classes, and how the next compound's element stands to this one's, where there is a next
@@ -22,6 +22,12 @@ pub record IsShort (compounds : List CompoundSelector) : Type 0 where
 -- the last compound, which stands for the element itself
 abbrev pub subject_of : List CompoundSelector → Option CompoundSelector
 subject_of s = slice_get s (length s - 1)
+
+-- the same compound with its ids and its classes in another order
+pub record IsReordered (c d : CompoundSelector) : Type 0 where
+  pub tag : d.tag ≡ c.tag
+  pub ids : IsPermutation c.ids d.ids
+  pub classes : IsPermutation c.classes d.classes
 
 -- ---- what a compound is made of
 

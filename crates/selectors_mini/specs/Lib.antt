@@ -2,3 +2,5 @@ pub mod Compounds
 pub mod Parts
 pub mod Spelling
 pub mod Reading
+pub mod Matching
+pub mod Climbing

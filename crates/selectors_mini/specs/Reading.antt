@@ -7,7 +7,7 @@ use Rattle.selectors_mini.specs.Parts.{SelectorPart, Word, Hash, Dot, Star, Grea
 use Rattle.selectors_mini.specs.declared.combinator.Combinator.TheVariants.{Child, Descendant}
 use Rattle.selectors_mini.specs.declared.reader.Place.{Place}
 use Rattle.selectors_mini.specs.declared.reader.Place.TheVariants.{Start, Inside, Point, Spaced, Below}
-use Rattle.selectors_mini.specs.declared.reader.Step.{Step}
+use Rattle.selectors_mini.specs.declared.reader.Advance.{Advance}
 use Rattle.selectors_mini.specs.declared.reading.SelectorFault.{SelectorFault}
 use Rattle.selectors_mini.specs.declared.reading.SelectorFault.TheVariants.{Unsupported, BoundSelectors, BoundCompounds, NoMemory}
 
@@ -27,11 +27,11 @@ is_comma Comma = true
 is_comma _ = false
 
 -- on with the same compound
-abbrev pub stay : Place → CompoundSelector → Step
+abbrev pub stay : Place → CompoundSelector → Advance
 stay place c = record { ended = None; compound = c; place = place }
 
 -- a compound begins with the part, which ends another
-abbrev pub begin : Option CompoundSelector → SelectorPart → Option Step
+abbrev pub begin : Option CompoundSelector → SelectorPart → Option Advance
 begin ended (Word name) = Some (record { ended = ended; compound = of_type name; place = Inside })
 begin ended (Hash name) = Some (record { ended = ended; compound = with_id any_element name; place = Inside })
 begin ended Dot = Some (record { ended = ended; compound = any_element; place = Point })
@@ -39,11 +39,11 @@ begin ended Star = Some (record { ended = ended; compound = any_element; place =
 begin ended _ = None
 
 -- where the next part leads, if it may stand there: before the first compound
-abbrev pub step_start : CompoundSelector → SelectorPart → Option Step
+abbrev pub step_start : CompoundSelector → SelectorPart → Option Advance
 step_start c part = if is_space part then Some (stay Start c) else begin None part
 
 -- directly behind a part of the compound
-abbrev pub step_inside : CompoundSelector → SelectorPart → Option Step
+abbrev pub step_inside : CompoundSelector → SelectorPart → Option Advance
 step_inside c (Hash name) = Some (stay Inside (with_id c name))
 step_inside c Dot = Some (stay Point c)
 step_inside c Greater = Some (stay Below c)
@@ -51,21 +51,21 @@ step_inside c Space = Some (stay Spaced c)
 step_inside c _ = None
 
 -- behind the `.` of a class
-abbrev pub step_to_name : CompoundSelector → SelectorPart → Option Step
+abbrev pub step_to_name : CompoundSelector → SelectorPart → Option Advance
 step_to_name c (Word name) = Some (stay Inside (with_class c name))
 step_to_name c _ = None
 
 -- behind the compound and spaces
-abbrev pub step_spaced : CompoundSelector → SelectorPart → Option Step
+abbrev pub step_spaced : CompoundSelector → SelectorPart → Option Advance
 step_spaced c part =
     if is_space part then Some (stay Spaced c)
     else (if is_greater part then Some (stay Below c) else begin (Some (followed_by c Descendant)) part)
 
 -- behind the compound and `>`
-abbrev pub step_below : CompoundSelector → SelectorPart → Option Step
+abbrev pub step_below : CompoundSelector → SelectorPart → Option Advance
 step_below c part = if is_space part then Some (stay Below c) else begin (Some (followed_by c Child)) part
 
-abbrev pub step_from : Place → CompoundSelector → SelectorPart → Option Step
+abbrev pub step_from : Place → CompoundSelector → SelectorPart → Option Advance
 step_from Start c part = step_start c part
 step_from Inside c part = step_inside c part
 step_from Point c part = step_to_name c part

@@ -5,18 +5,25 @@
 //! names.
 #![tactic(auto)]
 
+mod climb;
 mod combinator;
 mod compound;
 mod ident;
 mod laws;
+mod matching;
 mod part;
 mod reader;
 mod reading;
+mod represent;
 mod selector;
 
 pub use combinator::Combinator;
 pub use compound::Compound;
 pub use ident::Ident;
-pub use laws::{one_selector_list, selector_reading_is_exact, specificity_adds_up};
+pub use laws::{
+    matching_is_exact, more_classes_lose_nothing, one_selector_list, parts_in_any_order,
+    selector_reading_is_exact, specificity_adds_up,
+};
+pub use matching::{matches, matches_any};
 pub use reading::{SelectorFault, read_selectors};
 pub use selector::{MAX_COMPOUNDS, Selector, specificity};

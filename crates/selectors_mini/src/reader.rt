@@ -29,7 +29,7 @@ pub(crate) enum Place {
 
 /// Where a part leads: the compound that it ends, the one that is being read, and where the reader stands.
 #[derive(Drop)]
-pub(crate) struct Step {
+pub(crate) struct Advance {
     ended: Option<Compound>,
     compound: Compound,
     place: Place,
@@ -97,7 +97,7 @@ fn step_from(
     place: Place,
     compound: Compound,
     part: &Part,
-) -> Result<Step, SelectorFault>
+) -> Result<Advance, SelectorFault>
     ensures { Tells (λ s. s) result (step_from place compound (part_of_code part.now)) }
 {
     match place {
@@ -109,7 +109,7 @@ fn step_from(
     }
 }
 
-fn step_start(alloc: Global, compound: Compound, part: &Part) -> Result<Step, SelectorFault>
+fn step_start(alloc: Global, compound: Compound, part: &Part) -> Result<Advance, SelectorFault>
     ensures { Tells (λ s. s) result (step_start compound (part_of_code part.now)) }
 {
     if is_space(part) {
@@ -119,7 +119,7 @@ fn step_start(alloc: Global, compound: Compound, part: &Part) -> Result<Step, Se
     }
 }
 
-fn step_inside(alloc: Global, compound: Compound, part: &Part) -> Result<Step, SelectorFault>
+fn step_inside(alloc: Global, compound: Compound, part: &Part) -> Result<Advance, SelectorFault>
     ensures { Tells (λ s. s) result (step_inside compound (part_of_code part.now)) }
 {
     match part {
@@ -131,7 +131,7 @@ fn step_inside(alloc: Global, compound: Compound, part: &Part) -> Result<Step, S
     }
 }
 
-fn step_to_name(alloc: Global, compound: Compound, part: &Part) -> Result<Step, SelectorFault>
+fn step_to_name(alloc: Global, compound: Compound, part: &Part) -> Result<Advance, SelectorFault>
     ensures { Tells (λ s. s) result (step_to_name compound (part_of_code part.now)) }
 {
     match part {
@@ -146,7 +146,7 @@ fn step_to_name(alloc: Global, compound: Compound, part: &Part) -> Result<Step, 
     }
 }
 
-fn step_spaced(alloc: Global, compound: Compound, part: &Part) -> Result<Step, SelectorFault>
+fn step_spaced(alloc: Global, compound: Compound, part: &Part) -> Result<Advance, SelectorFault>
     ensures { Tells (λ s. s) result (step_spaced compound (part_of_code part.now)) }
 {
     if is_space(part) {
@@ -162,7 +162,7 @@ fn step_spaced(alloc: Global, compound: Compound, part: &Part) -> Result<Step, S
     }
 }
 
-fn step_below(alloc: Global, compound: Compound, part: &Part) -> Result<Step, SelectorFault>
+fn step_below(alloc: Global, compound: Compound, part: &Part) -> Result<Advance, SelectorFault>
     ensures { Tells (λ s. s) result (step_below compound (part_of_code part.now)) }
 {
     if is_space(part) {
@@ -173,18 +173,18 @@ fn step_below(alloc: Global, compound: Compound, part: &Part) -> Result<Step, Se
 }
 
 /// A compound begins with the part, which ends another.
-fn begin(alloc: Global, ended: Option<Compound>, part: &Part) -> Result<Step, SelectorFault>
+fn begin(alloc: Global, ended: Option<Compound>, part: &Part) -> Result<Advance, SelectorFault>
     ensures { Tells (λ s. s) result (begin ended (part_of_code part.now)) }
 {
     match part {
         Part::Word(name) => of_type(alloc, ended, name),
         Part::Hash(name) => of_id(alloc, ended, name),
-        Part::Dot => Ok(Step {
+        Part::Dot => Ok(Advance {
             ended,
             compound: Compound::any_element(alloc),
             place: Place::Point,
         }),
-        Part::Star => Ok(Step {
+        Part::Star => Ok(Advance {
             ended,
             compound: Compound::any_element(alloc),
             place: Place::Inside,
@@ -194,44 +194,44 @@ fn begin(alloc: Global, ended: Option<Compound>, part: &Part) -> Result<Step, Se
 }
 
 /// On with the same compound.
-fn stay(place: Place, compound: Compound) -> Step
+fn stay(place: Place, compound: Compound) -> Advance
     ensures { result ≡ stay place compound }
 {
-    Step {
+    Advance {
         ended: None,
         compound,
         place,
     }
 }
 
-fn of_type(alloc: Global, ended: Option<Compound>, name: &[u8]) -> Result<Step, SelectorFault>
+fn of_type(alloc: Global, ended: Option<Compound>, name: &[u8]) -> Result<Advance, SelectorFault>
     ensures { Tells (λ s. s) result (begin ended (SelectorPart.Word name.now)) }
 {
     let Ok(compound) = Compound::of_type(alloc, name) else {
         return Err(SelectorFault::NoMemory);
     };
-    Ok(Step {
+    Ok(Advance {
         ended,
         compound,
         place: Place::Inside,
     })
 }
 
-fn of_id(alloc: Global, ended: Option<Compound>, name: &[u8]) -> Result<Step, SelectorFault>
+fn of_id(alloc: Global, ended: Option<Compound>, name: &[u8]) -> Result<Advance, SelectorFault>
     ensures { Tells (λ s. s) result (begin ended (SelectorPart.Hash name.now)) }
 {
     let mut compound = Compound::any_element(alloc);
     let Ok(()) = compound.add_id(alloc, name) else {
         return Err(SelectorFault::NoMemory);
     };
-    Ok(Step {
+    Ok(Advance {
         ended,
         compound,
         place: Place::Inside,
     })
 }
 
-fn with_id(alloc: Global, compound: Compound, name: &[u8]) -> Result<Step, SelectorFault>
+fn with_id(alloc: Global, compound: Compound, name: &[u8]) -> Result<Advance, SelectorFault>
     ensures { Tells (λ s. s) result (step_inside compound (SelectorPart.Hash name.now)) }
 {
     let mut longer = compound;
@@ -241,7 +241,7 @@ fn with_id(alloc: Global, compound: Compound, name: &[u8]) -> Result<Step, Selec
     }
 }
 
-fn with_class(alloc: Global, compound: Compound, name: &[u8]) -> Result<Step, SelectorFault>
+fn with_class(alloc: Global, compound: Compound, name: &[u8]) -> Result<Advance, SelectorFault>
     ensures { Tells (λ s. s) result (step_to_name compound (SelectorPart.Word name.now)) }
 {
     let mut longer = compound;

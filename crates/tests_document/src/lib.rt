@@ -2,6 +2,10 @@
 #![tactic(auto)]
 
 #[cfg(test)]
+mod matching;
+#[cfg(test)]
+mod selectors;
+#[cfg(test)]
 mod tree;
 #[cfg(test)]
 mod tree_limits;
