@@ -1,4 +1,7 @@
+pub mod Changes
+pub mod DeclarationLemmas
+pub mod EveryProperty
 pub mod Lookups
+pub mod StyleLemmas
 pub mod Tables
 pub mod TransitionLemmas
-pub mod WinnerLemmas

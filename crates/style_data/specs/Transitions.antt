@@ -1,8 +1,7 @@
--- The bounds of transitions and of matching items (CSS Transitions 1, sections 2 and 3).
+-- The bounds of transitions (CSS Transitions 1, section 3).
 use Rattle.std.specs.Prelude.{◌*◌, ◌^◌, ◌≤◌, ℤ, pos, ◌≤ℤ◌, unsigned_abs}
 use Rattle.reversing.specs.Reversal.{IsFactor}
-use Rattle.value_types.specs.Timing.{IsDelay, IsDuration, IsEasing}
-use Rattle.style_data.specs.declared.matched_item.MatchedItem.{MatchedItem}
+use Rattle.value_types.specs.Timing.{IsEasing}
 use Rattle.style_data.specs.declared.transition.Transition.{Transition}
 
 -- a moment of a document, in microseconds
@@ -18,9 +17,3 @@ pub record IsTransition (r : Transition) : Type 0 where
   pub end : unsigned_abs r.end.0 ≤ 3 * 10 ^ 15
   pub easing : IsEasing r.easing
   pub factor : IsFactor r.factor.0
-
--- a matching item as the lists hold it
-pub record IsMatchedItem (m : MatchedItem) : Type 0 where
-  pub duration : IsDuration m.duration
-  pub delay : IsDelay m.delay
-  pub easing : IsEasing m.easing
