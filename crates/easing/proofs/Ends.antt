@@ -4,7 +4,7 @@ use Rattle.std.specs.Prelude.{ℤ, pos, negsuc, ◌+ℤ◌, ◌-ℤ◌, ◌*ℤ�
 use Rattle.std.specs.Int.{int_min, int_max}
 use Rattle.std.proofs.lemmas.Int.{ints, clamps}
 use Rattle.std.proofs.Math.Nat.{zero-div, mul-div_cancel_left}
-use Rattle.fix_num.specs.Rounding.{rounded}
+use Rattle.fix_num.specs.Rounding.{rounded_quotient}
 use Rattle.value_types.specs.Timing.{IsEasing, fewest_steps}
 use Rattle.value_types.specs.declared.easing.Easing.TheVariants.{Linear, Cubic, Steps}
 use Rattle.value_types.specs.declared.easing.Jump.{Jump}
@@ -16,11 +16,11 @@ use Rattle.easing.specs.Stepping.{jumps_at_start, jumps_of, step_of}
 use Rattle.easing.proofs.Halving.{parameter_only, reached_at_start}
 use Rattle.easing.proofs.Ordered.{some_jumps}
 use Rattle.easing.proofs.Points.{coordinate_at_start, coordinate_at_end, only_start_reached}
-use Rattle.easing.proofs.Rises.{rounded_exact}
+use Rattle.fix_num.proofs.RoundingLemmas.{rounded_exact}
 
 -- what is a whole number of billionths is given as it is
 pub exact : (part whole q : ℤ) → pos 0 <ℤ whole → part *ℤ pos (10 ^ 9) ≡ q *ℤ whole → billionths part whole ≡ q
-exact part whole q some e = ap (λ v. rounded v whole) e ∙ rounded_exact q whole some
+exact part whole q some e = ap (λ v. rounded_quotient v whole) e ∙ rounded_exact q whole some
 
 -- ---- curves
 

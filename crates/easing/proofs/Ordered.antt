@@ -18,7 +18,8 @@ use Rattle.easing.specs.Easings.{output_of, KeepsUnit}
 use Rattle.easing.specs.Stepping.{jumps_at_start, jumps_of, step_back, step_of}
 use Rattle.easing.proofs.Halving.{parameter_is}
 use Rattle.easing.proofs.Points.{coordinate_unit, coordinates_rise}
-use Rattle.easing.proofs.Rises.{billionths_unit, billionths_rise, div_rises, quotient_rises}
+use Rattle.fix_num.proofs.RoundingLemmas.{div_rises, quotient_rises}
+use Rattle.easing.proofs.Rises.{billionths_unit, billionths_rise}
 
 -- ---- steps
 

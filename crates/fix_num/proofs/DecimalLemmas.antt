@@ -79,7 +79,7 @@ capped n most ds = elim (cases_lt n most) [
   | inr high ↦ omega (arith, digits_value_after-ge (min n most) ds, digits_value_after-ge n ds)
 ]
 
--- three runs of digits with a cap behind each
+-- three runs of digits with a cap after each
 pub capped_thrice : (whole fraction zeros : List ℕ) (most w e r : ℕ)
     → w ≡ min (digits_value_after 10 0 whole) most → e ≡ min (digits_value_after 10 w fraction) most → r ≡ min (digits_value_after 10 e zeros) most
     → r ≡ min (digits_value_after 10 0 ((whole ++ fraction) ++ zeros)) most
@@ -117,7 +117,7 @@ zeros_are n few = take-replicate n 9 48 few
 abbrev nine_zeros : List ℕ
 nine_zeros = 48 ∷ 48 ∷ 48 ∷ 48 ∷ 48 ∷ 48 ∷ 48 ∷ 48 ∷ 48 ∷ []
 
--- the digits before the point, those behind it that count, and zeros for those that are missing
+-- the digits before the point, those after it that count, and zeros for those that are missing
 pub units_read : (whole fraction : List ℕ) (places kept most w e r : ℕ) → places ≤ 9 → kept ≡ min (length fraction) places
     → w ≡ min (digits_value_after 10 0 whole) most → e ≡ min (digits_value_after 10 w (take kept fraction)) most
     → r ≡ min (digits_value_after 10 e (take {A = ℕ} (places - kept) nine_zeros)) most

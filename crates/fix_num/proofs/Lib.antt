@@ -1,9 +1,12 @@
+pub mod ClampLemmas
 pub mod DecimalLemmas
+pub mod IntegerLemmas
 pub mod PrintLemmas
 pub mod PrintedLemmas
 pub mod ReadingLemmas
 pub mod RestLemmas
 pub mod RoundedReadingLemmas
 pub mod RoundingLemmas
+pub mod SignLemmas
 pub mod SpellingLemmas
 pub mod ValueLemmas

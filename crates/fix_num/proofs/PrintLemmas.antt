@@ -1,4 +1,4 @@
--- The digits behind the point, and what an append keeps.
+-- The digits after the point, and what an append keeps.
 use Rattle.std.proofs.Common.{◌≡◌, ℕ, ◌+◌, ◌-◌, ◌/◌, ◌%◌, ◌^◌, ◌<◌, ◌≤◌, zero, suc, refl, arith, ap, ◌∷◌, ◌++◌, List, length, ◌∙◌, [], sym, append_assoc, append-nil}
 use Rattle.std.specs.Prelude.{◌≢◌}
 use Rattle.std.specs.Io.{StartsWith}
@@ -27,7 +27,7 @@ starts_with_more old xs ys h =
     let short : length old ≤ length xs = starts_with_length xs old h in
     rw take-append-le h
 
--- one more digit behind the others
+-- one more digit after the others
 pub digit_pushed : (old new total : List ℕ) (place left unit : ℕ) → 0 < place → left ≢ 0 → unit ≡ 10 ^ (place - 1)
     → new ≡ old ++ (48 + left / unit) ∷ [] → old ++ fraction_of place left ≡ total → new ++ fraction_of (place - 1) (left % unit) ≡ total
 digit_pushed old new total place left unit some more u e whole =
@@ -41,12 +41,12 @@ none_left : (place : ℕ) → fraction_of place 0 ≡ []
 none_left zero = refl
 none_left (suc place) = refl
 
-text_behind : (places rest : ℕ) → rest ≢ 0 → fraction_text places rest ≡ 46 ∷ fraction_of places rest
-text_behind places rest h = grind (arith, nat_tests)
+text_after : (places rest : ℕ) → rest ≢ 0 → fraction_text places rest ≡ 46 ∷ fraction_of places rest
+text_after places rest h = grind (arith, nat_tests)
 
 pub fraction_done : (out old start : List ℕ) (place left places rest : ℕ) → rest ≢ 0 → left ≡ 0 → start ≡ old ++ 46 ∷ []
     → out ++ fraction_of place left ≡ start ++ fraction_of places rest → out ≡ old ++ fraction_text places rest
 fraction_done out old start place left places rest some none dot whole =
     sym (append-nil out) ∙ ap (λ l. out ++ l) (sym (none_left place)) ∙ ap (λ n. out ++ fraction_of place n) (sym none)
     ∙ whole ∙ ap (λ l. l ++ fraction_of places rest) dot ∙ append_assoc old (46 ∷ []) (fraction_of places rest)
-    ∙ ap (λ l. old ++ l) (sym (text_behind places rest some))
+    ∙ ap (λ l. old ++ l) (sym (text_after places rest some))

@@ -9,13 +9,13 @@ use Rattle.std.proofs.lemmas.Int.{ints}
 use Rattle.std.proofs.lemmas.List.{drop_all, length-append, take_all}
 use Rattle.std.specs.List.{list_all}
 use Rattle.fix_num.specs.Digits.{are_digits}
-use Rattle.fix_num.specs.Decimal.{Decimal, IsDecimal, IsSign, Stands, pointed, signed, units_of}
-use Rattle.fix_num.specs.Print.{IsShortest, fraction_of, fraction_text, minus_of, text_of}
+use Rattle.fix_num.specs.Decimal.{Decimal, IsDecimal, IsSign, Stands, point_and_digits, signed_number, units_of}
+use Rattle.fix_num.specs.Print.{IsShortest, fraction_of, fraction_text, minus_of, decimal_text}
 use Rattle.fix_num.proofs.DecimalLemmas.{digits_value_after-append}
 use Rattle.fix_num.proofs.PrintLemmas.{power_positive}
 use Rattle.fix_num.proofs.ValueLemmas.{zeros_worth}
 
--- ---- the digits behind the point
+-- ---- the digits after the point
 
 -- the first digit is one, and what is left is below the next power
 first_small : (places r : ℕ) → r < 10 ^ suc places → r / 10 ^ places < 10
@@ -72,7 +72,7 @@ fraction_worth n (suc places) r small = elim (cases_Bool (r == 0)) [
       ∙ place_worth n (r / 10 ^ places) (r % 10 ^ places) (10 ^ places) (10 ^ suc places) r (pow-suc 10 places) (div-add-mod' r (10 ^ places))
 ]
 
-point_of : (places r : ℕ) → r < 10 ^ places → fraction_text places r ≡ pointed (fraction_of places r)
+point_of : (places r : ℕ) → r < 10 ^ places → fraction_text places r ≡ point_and_digits (fraction_of places r)
 point_of zero r small = let none : r ≡ 0 = omega arith in rw none refl
 point_of (suc places) r small = elim (cases_Bool (r == 0)) [
   | inl none ↦ rw none refl
@@ -105,18 +105,18 @@ minus_is : (v : ℤ) → IsSign (minus_of v) (is_minus v)
 minus_is (pos n) = refl
 minus_is (negsuc n) = inr (refl, refl)
 
-size_is : (v : ℤ) → v ≡ signed (is_minus v) (unsigned_abs v)
+size_is : (v : ℤ) → v ≡ signed_number (is_minus v) (unsigned_abs v)
 size_is (pos n) = refl
 size_is (negsuc n) = refl
 
-printed_text : (places : ℕ) (v : ℤ) → text_of places v ≡ minus_of v ++ ((printed places v).whole ++ pointed (printed places v).fraction)
-unfolding text_of
+printed_text : (places : ℕ) (v : ℤ) → decimal_text places v ≡ minus_of v ++ ((printed places v).whole ++ point_and_digits (printed places v).fraction)
+unfolding decimal_text
 printed_text places v = append_assoc (minus_of v) _ _ ∙ ap (λ l. minus_of v ++ (decimal (unsigned_abs v / 10 ^ places) ++ l)) (point_of places (unsigned_abs v % 10 ^ places) (rest_small places (unsigned_abs v)))
 
 whole_small : (places n : ℕ) → n < 2 ^ 64 → n / 10 ^ places < 2 ^ 64
 whole_small places n small = omega (arith, div-le_self n (10 ^ places))
 
-pub printed_spells : (places : ℕ) (v : ℤ) → unsigned_abs v < 2 ^ 64 → IsDecimal (text_of places v) (printed places v)
+pub printed_spells : (places : ℕ) (v : ℤ) → unsigned_abs v < 2 ^ 64 → IsDecimal (decimal_text places v) (printed places v)
 printed_spells places v small =
     let below = whole_small places (unsigned_abs v) small in
     let numeral = (decimal_is_IsNumeral (unsigned_abs v / 10 ^ places) below).0 in
@@ -141,20 +141,20 @@ printed_units places v small =
     ∙ ap (λ n. n * 10 ^ places + unsigned_abs v % 10 ^ places) value
     ∙ div-add-mod' (unsigned_abs v) (10 ^ places)
 
-pub printed_stands : (places : ℕ) (v : ℤ) → unsigned_abs v < 2 ^ 64 → Stands places (text_of places v) v
+pub printed_stands : (places : ℕ) (v : ℤ) → unsigned_abs v < 2 ^ 64 → Stands places (decimal_text places v) v
 printed_stands places v small =
     let ds = fraction_of places (unsigned_abs v % 10 ^ places) in (
       printed places v,
       printed_spells places v small,
       ap (λ l. list_all (λ c. c == 48) l) (drop_all places ds (fraction_length places (unsigned_abs v % 10 ^ places))),
-      size_is v ∙ ap (signed (is_minus v)) (sym (printed_units places v small)),
+      size_is v ∙ ap (signed_number (is_minus v)) (sym (printed_units places v small)),
     )
 
 -- ---- no character too many
 
-last_behind : (d : ℕ) (ds : List ℕ) → 0 < length ds → slice_index (d ∷ ds) (length (d ∷ ds) - 1) ≡ slice_index ds (length ds - 1)
-last_behind d [] some = absurd (omega arith)
-last_behind d (x ∷ xs) some =
+last_after : (d : ℕ) (ds : List ℕ) → 0 < length ds → slice_index (d ∷ ds) (length (d ∷ ds) - 1) ≡ slice_index ds (length ds - 1)
+last_after d [] some = absurd (omega arith)
+last_after d (x ∷ xs) some =
     let far : suc (suc (length xs)) - 1 ≡ suc (length xs) = omega arith in
     let near : suc (length xs) - 1 ≡ length xs = omega arith in
     rw (far, near) refl
@@ -173,7 +173,7 @@ fraction_some (suc places) r small some = elim (cases_Bool (r == 0)) [
 abbrev NoZeroLast : List ℕ → Type 0
 NoZeroLast ds = slice_index ds (length ds - 1) ≢ 48
 
--- a digit with nothing left behind it isn't 0
+-- a digit with nothing left after it isn't 0
 alone : (q unit rest r : ℕ) → q * unit + rest ≡ r → (r ≡ 0 → ⊥) → rest ≡ 0 → NoZeroLast ((48 + q) ∷ [])
 alone zero unit rest r sum some none = absurd (some (omega (arith, zero-mul unit)))
 alone (suc q) unit rest r sum some none = λ e. absurd (omega arith)
@@ -190,8 +190,8 @@ no_zero_last (suc places) r small = elim (cases_Bool (r == 0)) [
             subst (λ ds. NoZeroLast ((48 + r / 10 ^ places) ∷ ds)) (sym (ap (fraction_of places) none ∙ fraction_none places))
             (alone (r / 10 ^ places) (10 ^ places) rest r (div-add-mod' r (10 ^ places)) some none)
         | inr left ↦
-            let behind = last_behind (48 + r / 10 ^ places) (fraction_of places rest) (fraction_some places rest (rest_small places r) (omega arith)) in
-            λ e. no_zero_last places rest (rest_small places r) (sym behind ∙ e)
+            let later = last_after (48 + r / 10 ^ places) (fraction_of places rest) (fraction_some places rest (rest_small places r) (omega arith)) in
+            λ e. no_zero_last places rest (rest_small places r) (sym later ∙ e)
       ])
 ]
 
@@ -207,16 +207,16 @@ is_minus_tells : (v : ℤ) → IsTrue (is_minus v) ↔ (v <ℤ pos 0)
 is_minus_tells (pos n) = (λ h. absurd (false≢true h), λ h. absurd (omega (arith, ints)))
 is_minus_tells (negsuc n) = (λ h. omega (arith, ints), λ h. refl)
 
-pub printed_is_short : (places : ℕ) (v : ℤ) → unsigned_abs v < 2 ^ 64 → IsShortest (text_of places v) (printed places v)
+pub printed_is_short : (places : ℕ) (v : ℤ) → unsigned_abs v < 2 ^ 64 → IsShortest (decimal_text places v) (printed places v)
 printed_is_short places v small =
     let below = whole_small places (unsigned_abs v) small in
     record {
-      spelled = printed_text places v ∙ ap (λ l. l ++ ((printed places v).whole ++ pointed (printed places v).fraction)) (minus_by_sign v);
+      spelled = printed_text places v ∙ ap (λ l. l ++ ((printed places v).whole ++ point_and_digits (printed places v).fraction)) (minus_by_sign v);
       whole = (decimal_is_IsNumeral (unsigned_abs v / 10 ^ places) below).0.0;
       no_zero_first = no_zero_first (unsigned_abs v / 10 ^ places) below;
       no_zero_last = no_zero_last places (unsigned_abs v % 10 ^ places) (rest_small places (unsigned_abs v));
     }
 
 pub printed_shortest : (places : ℕ) (v : ℤ) → unsigned_abs v < 2 ^ 64
-    → (d : Decimal) × IsDecimal (text_of places v) d × IsShortest (text_of places v) d × (IsTrue d.negative ↔ (v <ℤ pos 0))
+    → (d : Decimal) × IsDecimal (decimal_text places v) d × IsShortest (decimal_text places v) d × (IsTrue d.negative ↔ (v <ℤ pos 0))
 printed_shortest places v small = (printed places v, printed_spells places v small, printed_is_short places v small, is_minus_tells v)

@@ -1,7 +1,7 @@
 -- The four answers of a reading.
 use Rattle.std.proofs.Common.{◌≡◌, ℕ, ◌<◌, ◌≤◌, refl, ap, subst, sym, ◌∙◌, List, false, cond, inl, inr, Option, Some, None, Result, Ok, Err, ℤ, unsigned_abs}
 use Rattle.std.proofs.lemmas.Bool.{cases_Bool, cases_lt, le-leb, lt-leb}
-use Rattle.fix_num.specs.Decimal.{Decimal, IsDecimal, Stands, decimal_of, exact_reading, is_exact, reading_of, signed, units_of, within}
+use Rattle.fix_num.specs.Decimal.{Decimal, IsDecimal, Stands, decimal_of, exact_reading, is_exact, reading_of, signed_number, units_of, number_within}
 use Rattle.fix_num.specs.declared.decimal.NumFault.{NumFault}
 use Rattle.fix_num.specs.declared.decimal.NumFault.TheVariants.{Syntax, TooFine, TooLarge}
 use Rattle.fix_num.proofs.SpellingLemmas.{found, spelled}
@@ -17,18 +17,18 @@ unfolding reading_of
 reading_none places limit text e = rw e refl
 
 not_exact : (places limit : ℕ) (text : List ℕ) (d : Decimal) → IsDecimal text d → is_exact places d ≡ false → reading_of places limit text ≡ Err TooFine
-not_exact places limit text d h fine = reading_at places limit text d (found text d h) ∙ ap (λ b. cond b (within limit (signed d.negative (units_of places d))) (Err TooFine)) fine
+not_exact places limit text d h fine = reading_at places limit text d (found text d h) ∙ ap (λ b. cond b (number_within limit (signed_number d.negative (units_of places d))) (Err TooFine)) fine
 
-pub within_ok : (limit : ℕ) (v : ℤ) → unsigned_abs v ≤ limit → within limit v ≡ Ok v
+pub within_ok : (limit : ℕ) (v : ℤ) → unsigned_abs v ≤ limit → number_within limit v ≡ Ok v
 within_ok limit v small = ap (λ b. let ok : Result ℤ NumFault = Ok v in cond b ok (Err TooLarge)) (le-leb (unsigned_abs v) limit small)
 
-pub within_large : (limit : ℕ) (v : ℤ) → limit < unsigned_abs v → within limit v ≡ Err TooLarge
+pub within_large : (limit : ℕ) (v : ℤ) → limit < unsigned_abs v → number_within limit v ≡ Err TooLarge
 within_large limit v large = ap (λ b. let ok : Result ℤ NumFault = Ok v in cond b ok (Err TooLarge)) (lt-leb (unsigned_abs v) limit large)
 
-pub within_number : (places limit : ℕ) (text : List ℕ) (v : ℤ) → Stands places text v → reading_of places limit text ≡ within limit v
+pub within_number : (places limit : ℕ) (text : List ℕ) (v : ℤ) → Stands places text v → reading_of places limit text ≡ number_within limit v
 within_number places limit text v s =
-    reading_at places limit text s.0 (found text s.0 s.1) ∙ ap (λ b. cond b (within limit (signed s.0.negative (units_of places s.0))) (Err TooFine)) s.2
-    ∙ ap (within limit) (sym s.3)
+    reading_at places limit text s.0 (found text s.0 s.1) ∙ ap (λ b. cond b (number_within limit (signed_number s.0.negative (units_of places s.0))) (Err TooFine)) s.2
+    ∙ ap (number_within limit) (sym s.3)
 
 pub number_from : (places limit : ℕ) (text : List ℕ) (v : ℤ) → Stands places text v × (unsigned_abs v ≤ limit) → reading_of places limit text ≡ Ok v
 number_from places limit text v h = within_number places limit text v h.0 ∙ within_ok limit v h.1
@@ -61,7 +61,7 @@ answer_at places limit text None e =
 answer_at places limit text (Some d) e = elim (cases_Bool (is_exact places d)) [
   | inr fine ↦ let cause : (d : Decimal) × IsDecimal text d × (is_exact places d ≡ false) = (d, spelled text d e, fine) in too_fine (too_fine_from places limit text cause) cause
   | inl exact ↦
-      let v : ℤ = signed d.negative (units_of places d) in
+      let v : ℤ = signed_number d.negative (units_of places d) in
       let stands : Stands places text v = (d, spelled text d e, exact, refl) in
       elim (cases_lt limit (unsigned_abs v)) [
         | inl large ↦ too_large (too_large_from places limit text (v, stands, large)) (v, stands, large)

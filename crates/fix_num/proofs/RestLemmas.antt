@@ -1,5 +1,5 @@
--- The nearest number from the units that are kept and the digits behind them.
-use Rattle.std.proofs.Common.{◌≡◌, ℕ, ◌+◌, ◌-◌, ◌*◌, ◌^◌, ◌<◌, ◌≤◌, min, zero, suc, refl, arith, ap, subst, sym, ◌∙◌, List, Bool, true, false, cond, drop, length, nat_le, nat_lt, inl, inr, mul-le-mul_right, mul-lt-mul_of_pos_right, ℤ, pos, neg_ℤ, ◌*ℤ◌, ltb-true, ltb-false, leb-true, leb-false, le-ltb, le-leb, lt-ltb, eqb-true, add-zero, le_refl, pow-suc, get_or, take, Ok, Err, unsigned_abs, not, ◌||◌, ◌==◌, ◌∷◌, []}
+-- The nearest number from the units that are kept and the digits after them.
+use Rattle.std.proofs.Common.{◌≡◌, ℕ, ◌+◌, ◌-◌, ◌*◌, ◌^◌, ◌<◌, ◌≤◌, min, zero, suc, refl, arith, ap, subst, sym, ◌∙◌, List, Bool, true, false, cond, drop, length, nat_le, nat_lt, inl, inr, mul-le-mul_right, mul-lt-mul_of_pos_right, ℤ, pos, neg_ℤ, ◌*ℤ◌, ltb-true, ltb-false, leb-true, leb-false, le-ltb, le-leb, lt-ltb, eqb-true, add-zero, le_refl, pow-suc, get_or, take, Ok, Err, not, ◌||◌, ◌==◌, ◌∷◌, []}
 use Rattle.std.specs.Str.Parse.{digits_value, digits_value_after}
 use Rattle.std.specs.List.{list_all}
 use Rattle.std.proofs.lemmas.Bool.{and_parts, cases_Bool, cases_lt, eqb-false, lt-leb}
@@ -9,7 +9,7 @@ use Rattle.std.proofs.lemmas.List.Folds.{list_all-append}
 use Rattle.std.specs.Char.{digit_value, is_ascii_digit}
 use Rattle.std.proofs.lemmas.Int.{ints}
 use Rattle.fix_num.specs.Digits.{are_digits}
-use Rattle.fix_num.specs.Decimal.{Decimal, is_exact, reading_of, signed, units_of, within}
+use Rattle.fix_num.specs.Decimal.{Decimal, is_exact, reading_of, signed_number, units_of, number_within}
 use Rattle.fix_num.specs.Rounded.{passes_half, rounded_reading_of, rounded_units}
 use Rattle.fix_num.specs.declared.decimal.NumFault.TheVariants.{TooLarge}
 use Rattle.fix_num.specs.Rounding.{IsNearest}
@@ -19,9 +19,10 @@ use Rattle.fix_num.proofs.ValueLemmas.{units_with_rest, power_split, digits_belo
 use Rattle.fix_num.proofs.DecimalLemmas.{digit_from, digit_is, digits_value_after-ge}
 use Rattle.fix_num.proofs.ReadingLemmas.{number_told, within_large, within_number}
 use Rattle.fix_num.proofs.RoundedReadingLemmas.{rounded_reading_at}
+use Rattle.fix_num.proofs.SignLemmas.{size_of_signed}
 use Rattle.fix_num.proofs.SpellingLemmas.{found}
 
-signed_times : (negative : Bool) (n b : ℕ) → signed negative n *ℤ pos b ≡ signed negative (n * b)
+signed_times : (negative : Bool) (n b : ℕ) → signed_number negative n *ℤ pos b ≡ signed_number negative (n * b)
 signed_times false n b = refl
 signed_times true zero b = omega (arith, ints)
 signed_times true (suc n) b = omega (arith, ints)
@@ -55,7 +56,7 @@ near_below u m s p false e part some =
     record { not_above = omega (arith, ints); not_below = omega (arith, ints) }
 
 near_at : (negative : Bool) (u p : ℕ) (rest : List ℕ) → are_digits rest ≡ true → 0 < p
-    → IsNearest (signed negative ((u * 10 ^ length rest + digits_value 10 rest) * p)) (pos (10 ^ length rest * p)) (signed negative (u + counted (passes_half negative rest)))
+    → IsNearest (signed_number negative ((u * 10 ^ length rest + digits_value 10 rest) * p)) (pos (10 ^ length rest * p)) (signed_number negative (u + counted (passes_half negative rest)))
 near_at true u p rest h some = near_below u (10 ^ length rest) (digits_value 10 rest) p _ refl (digits_below rest h) some
 near_at false u p rest h some = near_above u (10 ^ length rest) (digits_value 10 rest) p _ refl (digits_below rest h) some
 
@@ -65,17 +66,17 @@ are_digits_drop n ds h =
 
 -- the rounded number is the units that are kept, and one more where the rest counts
 pub rounded_by_units : (places : ℕ) (d : Decimal) → are_digits d.fraction ≡ true
-    → rounded_units places d ≡ signed d.negative (units_of places d + counted (passes_half d.negative (drop places d.fraction)))
+    → rounded_units places d ≡ signed_number d.negative (units_of places d + counted (passes_half d.negative (drop places d.fraction)))
 unfolding rounded_units
 rounded_by_units places d digits =
     let rest : List ℕ = drop places d.fraction in
-    let r : ℤ = signed d.negative (units_of places d + counted (passes_half d.negative rest)) in
+    let r : ℤ = signed_number d.negative (units_of places d + counted (passes_half d.negative rest)) in
     let parts : ℕ = (units_of places d * 10 ^ length rest + digits_value 10 rest) * 10 ^ min places (length d.fraction) in
-    let near : IsNearest (signed d.negative parts) (pos (10 ^ length rest * 10 ^ min places (length d.fraction))) r =
+    let near : IsNearest (signed_number d.negative parts) (pos (10 ^ length rest * 10 ^ min places (length d.fraction))) r =
     near_at d.negative (units_of places d) (10 ^ min places (length d.fraction)) rest (are_digits_drop places d.fraction digits) (power_positive (min places (length d.fraction))) in
-    let over : IsNearest (signed d.negative parts) (pos (10 ^ length d.fraction)) r = subst (λ n. IsNearest (signed d.negative parts) (pos n) r) (power_split places d.fraction) near in
+    let over : IsNearest (signed_number d.negative parts) (pos (10 ^ length d.fraction)) r = subst (λ n. IsNearest (signed_number d.negative parts) (pos n) r) (power_split places d.fraction) near in
     let positive = power_positive (length d.fraction) in
-    sym (nearest_only _ _ r (omega (arith, ints)) (subst (λ n. IsNearest (signed d.negative n) (pos (10 ^ length d.fraction)) r) (units_with_rest places d) over))
+    sym (nearest_only _ _ r (omega (arith, ints)) (subst (λ n. IsNearest (signed_number d.negative n) (pos (10 ^ length d.fraction)) r) (units_with_rest places d) over))
 
 -- ---- a rest of zeros
 
@@ -83,19 +84,19 @@ zero_rest : (negative : Bool) (rest : List ℕ) → digits_value 10 rest ≡ 0 �
 zero_rest true rest none = let some = power_positive (length rest) in le-ltb (10 ^ length rest) (2 * digits_value 10 rest) (omega arith)
 zero_rest false rest none = let some = power_positive (length rest) in lt-leb (10 ^ length rest) (2 * digits_value 10 rest) (omega arith)
 
-exact_is_rounded : (places : ℕ) (d : Decimal) → are_digits d.fraction ≡ true → is_exact places d ≡ true → rounded_units places d ≡ signed d.negative (units_of places d)
+pub exact_is_rounded : (places : ℕ) (d : Decimal) → are_digits d.fraction ≡ true → is_exact places d ≡ true → rounded_units places d ≡ signed_number d.negative (units_of places d)
 exact_is_rounded places d digits exact =
     rounded_by_units places d digits
-    ∙ ap (λ b. signed d.negative (units_of places d + counted b)) (zero_rest d.negative (drop places d.fraction) (no_worth (drop places d.fraction) exact))
-    ∙ ap (λ n. signed d.negative n) (add-zero (units_of places d))
+    ∙ ap (λ b. signed_number d.negative (units_of places d + counted b)) (zero_rest d.negative (drop places d.fraction) (no_worth (drop places d.fraction) exact))
+    ∙ ap (λ n. signed_number d.negative n) (add-zero (units_of places d))
 
 pub same_reading : (places limit : ℕ) (text : List ℕ) (v : ℤ) → reading_of places limit text ≡ Ok v → rounded_reading_of places limit text ≡ Ok v
 same_reading places limit text v e =
     let told = number_told places limit text v e in
     let d : Decimal = told.0.0 in
     let read = found text d told.0.1 in
-    rounded_reading_at places limit text d read ∙ ap (within limit) (exact_is_rounded places d told.0.1.fraction told.0.2)
-    ∙ ap (within limit) (sym told.0.3) ∙ sym (within_number places limit text v told.0) ∙ e
+    rounded_reading_at places limit text d read ∙ ap (number_within limit) (exact_is_rounded places d told.0.1.fraction told.0.2)
+    ∙ ap (number_within limit) (sym told.0.3) ∙ sym (within_number places limit text v told.0) ∙ e
 
 -- ---- the first digit of the rest
 
@@ -114,7 +115,7 @@ some_worth (d ∷ ds) h other = elim (cases_Bool (d == 48)) [
       omega (arith, digits_value_after-ge (0 * 10 + digit_value d) ds)
 ]
 
--- what a digit and those behind it are worth
+-- what a digit and those after it are worth
 first_worth : (d : ℕ) (ds : List ℕ) → is_ascii_digit d ≡ true → digits_value 10 (d ∷ ds) ≡ (d - 48) * 10 ^ length ds + digits_value 10 ds
 first_worth d ds h =
     digits_value_after_is (0 * 10 + digit_value d) ds
@@ -144,7 +145,7 @@ high_digit negative d ds h high =
     let some = power_positive (length ds) in
     half_of negative (d ∷ ds) (omega (arith, pow-suc 10 (length ds)))
 
--- a five is a half: what stands behind it tells
+-- a five is a half: what stands after it tells
 pub middle_digit : (negative : Bool) (ds : List ℕ) → are_digits (53 ∷ ds) ≡ true
     → passes_half negative (53 ∷ ds) ≡ (not negative || not (list_all (λ c. c == 48) ds))
 middle_digit false ds h =
@@ -192,27 +193,23 @@ other_rest negative places ds h within no_five = elim (cases_lt 53 (get_or ds pl
 
 -- ---- the limit
 
-size_of_signed : (negative : Bool) (n : ℕ) → unsigned_abs (signed negative n) ≡ n
-size_of_signed false n = refl
-size_of_signed true n = omega (arith, ints)
-
-past_limit : (negative : Bool) (limit n : ℕ) → limit < n → within limit (signed negative n) ≡ Err TooLarge
+past_limit : (negative : Bool) (limit n : ℕ) → limit < n → number_within limit (signed_number negative n) ≡ Err TooLarge
 past_limit negative limit n over =
     let size = size_of_signed negative n in
-    within_large limit (signed negative n) (omega arith)
+    within_large limit (signed_number negative n) (omega arith)
 
 -- a cap above the limit on the units that are kept changes nothing
 pub capped_reading : (places limit size most : ℕ) (d : Decimal) → are_digits d.fraction ≡ true → limit < most
     → size ≡ min (units_of places d) most + counted (passes_half d.negative (drop places d.fraction))
-    → within limit (signed d.negative size) ≡ within limit (rounded_units places d)
+    → number_within limit (signed_number d.negative size) ≡ number_within limit (rounded_units places d)
 capped_reading places limit size most d digits over e =
     let exact = rounded_by_units places d digits in
     elim (cases_lt (units_of places d) most) [
       | inl fits ↦
           let same : size ≡ units_of places d + counted (passes_half d.negative (drop places d.fraction)) = omega arith in
-          ap (λ n. within limit (signed d.negative n)) same ∙ ap (within limit) (sym exact)
+          ap (λ n. number_within limit (signed_number d.negative n)) same ∙ ap (number_within limit) (sym exact)
       | inr large ↦
           past_limit d.negative limit size (omega arith)
           ∙ sym (past_limit d.negative limit (units_of places d + counted (passes_half d.negative (drop places d.fraction))) (omega arith))
-          ∙ ap (within limit) (sym exact)
+          ∙ ap (number_within limit) (sym exact)
     ]

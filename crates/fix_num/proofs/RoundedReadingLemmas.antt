@@ -3,7 +3,7 @@ use Rattle.std.proofs.Common.{◌≡◌, ℕ, ◌*◌, ◌^◌, ◌<◌, ◌≤�
 use Rattle.std.specs.Str.Parse.{digits_value}
 use Rattle.std.proofs.lemmas.Bool.{cases_lt}
 use Rattle.std.proofs.lemmas.Int.{ints}
-use Rattle.fix_num.specs.Decimal.{Decimal, IsDecimal, decimal_of, signed, within}
+use Rattle.fix_num.specs.Decimal.{Decimal, IsDecimal, decimal_of, signed_number, number_within}
 use Rattle.fix_num.specs.Rounded.{StandsNear, rounded_reading_of, rounded_units}
 use Rattle.fix_num.specs.declared.decimal.NumFault.{NumFault}
 use Rattle.fix_num.specs.declared.decimal.NumFault.TheVariants.{Syntax, TooFine, TooLarge}
@@ -12,7 +12,7 @@ use Rattle.fix_num.proofs.ReadingLemmas.{found_none, within_large, within_ok}
 use Rattle.fix_num.proofs.RoundingLemmas.{nearest, nearest_only}
 use Rattle.fix_num.proofs.SpellingLemmas.{found, spelled}
 
-pub rounded_reading_at : (places limit : ℕ) (text : List ℕ) (d : Decimal) → decimal_of text ≡ Some d → rounded_reading_of places limit text ≡ within limit (rounded_units places d)
+pub rounded_reading_at : (places limit : ℕ) (text : List ℕ) (d : Decimal) → decimal_of text ≡ Some d → rounded_reading_of places limit text ≡ number_within limit (rounded_units places d)
 unfolding rounded_reading_of
 rounded_reading_at places limit text d e = rw e refl
 
@@ -24,17 +24,17 @@ units_near : (places : ℕ) (text : List ℕ) (d : Decimal) → IsDecimal text d
 unfolding rounded_units
 units_near places text d h =
     let some = power_positive (length d.fraction) in
-    (d, h, nearest (signed d.negative (digits_value 10 (d.whole ++ d.fraction) * 10 ^ places)) (pos (10 ^ length d.fraction)) (omega (arith, ints)))
+    (d, h, nearest (signed_number d.negative (digits_value 10 (d.whole ++ d.fraction) * 10 ^ places)) (pos (10 ^ length d.fraction)) (omega (arith, ints)))
 
-near_only : (places : ℕ) (text : List ℕ) (v : ℤ) (near : StandsNear places text v) → v ≡ rounded_units places near.0
+pub near_only : (places : ℕ) (text : List ℕ) (v : ℤ) (near : StandsNear places text v) → v ≡ rounded_units places near.0
 unfolding rounded_units
 near_only places text v near =
     let some = power_positive (length near.0.fraction) in
     nearest_only _ (pos (10 ^ length near.0.fraction)) v (omega (arith, ints)) near.2
 
-near_within : (places limit : ℕ) (text : List ℕ) (v : ℤ) → StandsNear places text v → rounded_reading_of places limit text ≡ within limit v
+near_within : (places limit : ℕ) (text : List ℕ) (v : ℤ) → StandsNear places text v → rounded_reading_of places limit text ≡ number_within limit v
 near_within places limit text v near =
-    rounded_reading_at places limit text near.0 (found text near.0 near.1) ∙ ap (within limit) (sym (near_only places text v near))
+    rounded_reading_at places limit text near.0 (found text near.0 near.1) ∙ ap (number_within limit) (sym (near_only places text v near))
 
 pub near_from : (places limit : ℕ) (text : List ℕ) (v : ℤ) → StandsNear places text v × (unsigned_abs v ≤ limit) → rounded_reading_of places limit text ≡ Ok v
 near_from places limit text v h = near_within places limit text v h.0 ∙ within_ok limit v h.1

@@ -1,11 +1,12 @@
--- What the rounding's floor says.
+-- What the rounding gives: its floor, the nearest number, its order.
 use Rattle.std.proofs.lemmas.Bool.{cases_lt}
-use Rattle.std.proofs.Common.{inl, inr, ◌-◌, ◌≡◌, ℕ, ◌+◌, ◌*◌, ◌/◌, ◌<◌, ◌≤◌, refl, arith}
+use Rattle.std.proofs.Common.{inl, inr, ◌-◌, ◌≡◌, ℕ, ◌+◌, ◌*◌, ◌/◌, ◌<◌, ◌≤◌, refl, sym, subst, arith}
 use Rattle.std.specs.Prelude.{ℤ, pos, negsuc, ◌+ℤ◌, ◌*ℤ◌, ◌≤ℤ◌, ◌<ℤ◌, unsigned_abs}
 use Rattle.std.specs.Int.{int_div_euclid}
 use Rattle.std.proofs.lemmas.Int.{ints}
+use Rattle.std.proofs.lemmas.Nat.{le-div}
 use Rattle.std.proofs.Math.Nat.{div-mul-le_self, lt-div-mul-add, div-lt_iff_lt-mul, mul-le-mul_left, mul-le-mul_right}
-use Rattle.fix_num.specs.Rounding.{rounded, IsNearest}
+use Rattle.fix_num.specs.Rounding.{rounded_quotient, IsNearest}
 
 -- a floor by a positive divisor, times the divisor
 pub floor_is : (z : ℤ) (d : ℕ) → 0 < d → ((int_div_euclid z (pos d) *ℤ pos d) ≤ℤ z) × (z <ℤ ((int_div_euclid z (pos d) *ℤ pos d) +ℤ pos d))
@@ -19,12 +20,12 @@ floor_is (negsuc a) d p =
     (omega (arith, ints, high), omega (arith, ints, low))
 
 -- z is the rounding's dividend, as a number with its sign
-rounded_pos : (a : ℤ) (b n : ℕ) → ((pos 2 *ℤ a) +ℤ pos b) ≡ pos n → rounded a (pos b) ≡ pos (n / (2 * b))
-unfolding rounded
+rounded_pos : (a : ℤ) (b n : ℕ) → ((pos 2 *ℤ a) +ℤ pos b) ≡ pos n → rounded_quotient a (pos b) ≡ pos (n / (2 * b))
+unfolding rounded_quotient
 rounded_pos a b n e = rw e refl
 
-rounded_neg : (a : ℤ) (b n : ℕ) → ((pos 2 *ℤ a) +ℤ pos b) ≡ negsuc n → rounded a (pos b) ≡ negsuc (n / (2 * b))
-unfolding rounded
+rounded_neg : (a : ℤ) (b n : ℕ) → ((pos 2 *ℤ a) +ℤ pos b) ≡ negsuc n → rounded_quotient a (pos b) ≡ negsuc (n / (2 * b))
+unfolding rounded_quotient
 rounded_neg a b n e = rw e refl
 
 -- a quotient by at least two is at most a half
@@ -36,7 +37,7 @@ half_le n m b some small =
     omega arith
 
 -- rounding makes no number greater in size
-pub rounded_size : (a : ℤ) (b : ℕ) → 0 < b → unsigned_abs (rounded a (pos b)) ≤ unsigned_abs a
+pub rounded_size : (a : ℤ) (b : ℕ) → 0 < b → unsigned_abs (rounded_quotient a (pos b)) ≤ unsigned_abs a
 rounded_size (pos m) b some =
     rw (rounded_pos (pos m) b (2 * m + b) (omega (arith, ints))) (half_le (2 * m + b) m b some (omega arith))
 rounded_size (negsuc m) b some = elim (cases_lt b (2 * m + 2)) [
@@ -44,7 +45,7 @@ rounded_size (negsuc m) b some = elim (cases_lt b (2 * m + 2)) [
   | inr high ↦ rw (rounded_pos (negsuc m) b (b - (2 * m + 2)) (omega (arith, ints))) (let h = half_le (b - (2 * m + 2)) 0 b some (omega arith) in omega (arith, h))
 ]
 
-pub size_of_rounded : (a b : ℤ) → pos 0 <ℤ b → unsigned_abs (rounded a b) ≤ unsigned_abs a
+pub size_of_rounded : (a b : ℤ) → pos 0 <ℤ b → unsigned_abs (rounded_quotient a b) ≤ unsigned_abs a
 size_of_rounded a (pos b) some = rounded_size a b (omega (arith, ints))
 size_of_rounded a (negsuc b) some = absurd (omega (arith, ints))
 
@@ -74,11 +75,11 @@ nearest_from_floor a q b low high =
     let same = doubled q b in
     record { not_above = omega (arith, ints); not_below = omega (arith, ints) }
 
-pub nearest : (a b : ℤ) → pos 0 <ℤ b → IsNearest a b (rounded a b)
-unfolding rounded
+pub nearest : (a b : ℤ) → pos 0 <ℤ b → IsNearest a b (rounded_quotient a b)
+unfolding rounded_quotient
 nearest a (pos b) some =
     let floor = floor_is ((pos 2 *ℤ a) +ℤ pos b) (2 * b) (omega (arith, ints)) in
-    nearest_from_floor a (rounded a (pos b)) b floor.0 floor.1
+    nearest_from_floor a (rounded_quotient a (pos b)) b floor.0 floor.1
 nearest a (negsuc b) some = absurd (omega (arith, ints))
 
 -- two that are nearest are no greater than each other
@@ -88,10 +89,39 @@ no_greater_nearest a r q b h k =
     let right = doubled q b in
     no_greater r q (2 * b) (omega (arith, ints))
 
-pub nearest_only : (a b r : ℤ) → pos 0 <ℤ b → IsNearest a b r → r ≡ rounded a b
+pub nearest_only : (a b r : ℤ) → pos 0 <ℤ b → IsNearest a b r → r ≡ rounded_quotient a b
 nearest_only a (pos b) r some h =
     let own = nearest a (pos b) some in
-    let up = no_greater_nearest a r (rounded a (pos b)) b h own in
-    let down = no_greater_nearest a (rounded a (pos b)) r b own h in
+    let up = no_greater_nearest a r (rounded_quotient a (pos b)) b h own in
+    let down = no_greater_nearest a (rounded_quotient a (pos b)) r b own h in
     omega (arith, ints)
 nearest_only a (negsuc b) r some h = absurd (omega (arith, ints))
+
+-- ---- order
+
+-- division keeps order
+pub quotient_rises : (x y d : ℕ) → 0 < d → x ≤ y → x / d ≤ y / d
+quotient_rises x y d some h = let low = div-mul-le_self x d in le-div (x / d) y d some (omega (arith, low))
+
+pub div_rises : (x y : ℤ) (d : ℕ) → 0 < d → x ≤ℤ y → int_div_euclid x (pos d) ≤ℤ int_div_euclid y (pos d)
+div_rises (pos x) (pos y) d some h = let q = quotient_rises x y d some (omega (arith, ints)) in omega (arith, ints, q)
+div_rises (pos x) (negsuc y) d some h = absurd (omega (arith, ints))
+div_rises (negsuc x) (pos y) d some h = omega (arith, ints)
+div_rises (negsuc x) (negsuc y) d some h = let q = quotient_rises y x d some (omega (arith, ints)) in omega (arith, ints, q)
+
+-- rounding keeps order
+pub rounded_rises : (x y b : ℤ) → pos 0 <ℤ b → x ≤ℤ y → rounded_quotient x b ≤ℤ rounded_quotient y b
+unfolding rounded_quotient
+rounded_rises x y (pos b) some h = div_rises ((pos 2 *ℤ x) +ℤ pos b) ((pos 2 *ℤ y) +ℤ pos b) (2 * b) (omega (arith, ints)) (omega (arith, ints))
+rounded_rises x y (negsuc b) some h = absurd (omega (arith, ints))
+
+-- a whole quotient is exact
+pub rounded_exact : (q b : ℤ) → pos 0 <ℤ b → rounded_quotient (q *ℤ b) b ≡ q
+rounded_exact q b some = sym (nearest_only (q *ℤ b) b q some (record { not_above = omega (arith, ints); not_below = omega (arith, ints) }))
+
+-- what lies between multiples of the divisor is rounded to between the quotients
+pub rounded_between : (low high a b : ℤ) → pos 0 <ℤ b → (low *ℤ b) ≤ℤ a → a ≤ℤ (high *ℤ b) → (low ≤ℤ rounded_quotient a b) × (rounded_quotient a b ≤ℤ high)
+rounded_between low high a b some above below = (
+  subst (λ (v : ℤ). v ≤ℤ rounded_quotient a b) (rounded_exact low b some) (rounded_rises (low *ℤ b) a b some above),
+  subst (λ (v : ℤ). rounded_quotient a b ≤ℤ v) (rounded_exact high b some) (rounded_rises a (high *ℤ b) b some below),
+)

@@ -8,18 +8,18 @@ use Rattle.std.proofs.lemmas.List.{drop_at, take-append-drop, length-append}
 use Rattle.std.proofs.lemmas.Option.{cond_some}
 use Rattle.std.proofs.lemmas.List.Sums.{take_while-cons}
 use Rattle.fix_num.specs.Digits.{are_digits}
-use Rattle.fix_num.specs.Decimal.{Decimal, IsDecimal, IsSign, decimal_from, decimal_of, pointed, unsigned_of, with_fraction}
+use Rattle.fix_num.specs.Decimal.{Decimal, IsDecimal, IsSign, decimal_from, decimal_of, point_and_digits, unsigned_of, with_fraction}
 use Rattle.fix_num.proofs.DecimalLemmas.{front_passes, front_taken}
 
 -- ---- what is spelled is found
 
 -- the digits before a point are all that the text begins with
-front_of : (whole fraction : List ℕ) → are_digits whole ≡ true → take_while is_ascii_digit (whole ++ pointed fraction) ≡ whole
+front_of : (whole fraction : List ℕ) → are_digits whole ≡ true → take_while is_ascii_digit (whole ++ point_and_digits fraction) ≡ whole
 front_of [] [] h = refl
 front_of [] (d ∷ ds) h = take_while-cons is_ascii_digit 46 (d ∷ ds)
 front_of (w ∷ ws) fraction h =
     let parts = and_parts (is_ascii_digit w) _ h in
-    take_while-cons is_ascii_digit w (ws ++ pointed fraction) ∙ ap (λ b. cond b (w ∷ take_while is_ascii_digit (ws ++ pointed fraction)) []) parts.0 ∙ ap (λ l. w ∷ l) (front_of ws fraction parts.1)
+    take_while-cons is_ascii_digit w (ws ++ point_and_digits fraction) ∙ ap (λ b. cond b (w ∷ take_while is_ascii_digit (ws ++ point_and_digits fraction)) []) parts.0 ∙ ap (λ l. w ∷ l) (front_of ws fraction parts.1)
 
 not_empty : (n : ℕ) → (suc n == 0) ≡ false
 not_empty n = grind (arith, nat_tests)
@@ -27,23 +27,23 @@ not_empty n = grind (arith, nat_tests)
 not_alone : (n : ℕ) → nat_lt 1 (suc (suc n)) ≡ true
 not_alone n = grind (arith, nat_tests)
 
--- a point with digits behind it
+-- a point with digits after it
 point_read : (negative : Bool) (whole : List ℕ) (c x : ℕ) (xs : List ℕ)
     → with_fraction negative whole (c ∷ x ∷ xs) ≡ cond (c == 46 && are_digits (x ∷ xs)) (Some (decimal_from negative whole (x ∷ xs))) None
 point_read negative whole c x xs = rw (not_empty (suc (length xs)), not_alone (length xs)) (elim (c == 46) as (λ b. cond (b && true && are_digits (x ∷ xs)) (Some (decimal_from negative whole (x ∷ xs))) None ≡ cond (b && are_digits (x ∷ xs)) (Some (decimal_from negative whole (x ∷ xs))) None) [ true ↦ refl | false ↦ refl ])
 
 rest_read : (negative : Bool) (whole fraction : List ℕ) → are_digits fraction ≡ true → 0 < length (whole ++ fraction)
-    → with_fraction negative whole (pointed fraction) ≡ Some (decimal_from negative whole fraction)
+    → with_fraction negative whole (point_and_digits fraction) ≡ Some (decimal_from negative whole fraction)
 rest_read negative [] [] h some = absurd (omega arith)
 rest_read negative (w ∷ ws) [] h some = rw (not_empty (length ws)) refl
 rest_read negative whole (d ∷ ds) h some = point_read negative whole 46 d ds ∙ ap (λ b. cond b (Some (decimal_from negative whole (d ∷ ds))) None) h
 
 unsigned_read : (negative : Bool) (whole fraction : List ℕ) → are_digits whole ≡ true → are_digits fraction ≡ true → 0 < length (whole ++ fraction)
-    → unsigned_of negative (whole ++ pointed fraction) ≡ Some (decimal_from negative whole fraction)
+    → unsigned_of negative (whole ++ point_and_digits fraction) ≡ Some (decimal_from negative whole fraction)
 unfolding unsigned_of
 unsigned_read negative whole fraction w f some =
-    ap (λ front. with_fraction negative front (drop (length front) (whole ++ pointed fraction))) (front_of whole fraction w)
-    ∙ ap (λ rest. with_fraction negative whole rest) (drop_at whole (pointed fraction) (length whole) refl)
+    ap (λ front. with_fraction negative front (drop (length front) (whole ++ point_and_digits fraction))) (front_of whole fraction w)
+    ∙ ap (λ rest. with_fraction negative whole rest) (drop_at whole (point_and_digits fraction) (length whole) refl)
     ∙ rest_read negative whole fraction f some
 
 digit_no_sign : (c : ℕ) → is_ascii_digit c ≡ true → ((c == 45) ≡ false) × ((c == 43) ≡ false)
@@ -55,12 +55,12 @@ unfolding decimal_of
 no_sign c cs minus plus = rw (not_empty (length cs), minus, plus) refl
 
 bare_read : (whole fraction : List ℕ) → are_digits whole ≡ true → are_digits fraction ≡ true → 0 < length (whole ++ fraction)
-    → decimal_of (whole ++ pointed fraction) ≡ Some (decimal_from false whole fraction)
+    → decimal_of (whole ++ point_and_digits fraction) ≡ Some (decimal_from false whole fraction)
 bare_read [] [] w f some = absurd (omega arith)
 bare_read [] (d ∷ ds) w f some = no_sign 46 (d ∷ ds) refl refl ∙ unsigned_read false [] (d ∷ ds) w f some
 bare_read (c ∷ cs) fraction w f some =
     let none = digit_no_sign c (and_parts (is_ascii_digit c) _ w).0 in
-    no_sign c (cs ++ pointed fraction) none.0 none.1 ∙ unsigned_read false (c ∷ cs) fraction w f some
+    no_sign c (cs ++ point_and_digits fraction) none.0 none.1 ∙ unsigned_read false (c ∷ cs) fraction w f some
 
 minus_read : (text : List ℕ) → decimal_of (45 ∷ text) ≡ unsigned_of true text
 unfolding decimal_of
@@ -71,12 +71,12 @@ unfolding decimal_of
 plus_read text = rw (not_empty (length text)) refl
 
 sign_read : (sign : List ℕ) (negative : Bool) (whole fraction : List ℕ) → IsSign sign negative → are_digits whole ≡ true → are_digits fraction ≡ true
-    → 0 < length (whole ++ fraction) → decimal_of (sign ++ (whole ++ pointed fraction)) ≡ Some (decimal_from negative whole fraction)
+    → 0 < length (whole ++ fraction) → decimal_of (sign ++ (whole ++ point_and_digits fraction)) ≡ Some (decimal_from negative whole fraction)
 sign_read [] negative whole fraction s w f some = bare_read whole fraction w f some ∙ ap (λ b. Some (decimal_from b whole fraction)) (sym s)
 sign_read (c ∷ []) negative whole fraction s w f some = elim s [
-  | inl plus ↦ ap (λ x. decimal_of (x ∷ (whole ++ pointed fraction))) plus.0 ∙ plus_read (whole ++ pointed fraction)
+  | inl plus ↦ ap (λ x. decimal_of (x ∷ (whole ++ point_and_digits fraction))) plus.0 ∙ plus_read (whole ++ point_and_digits fraction)
       ∙ unsigned_read false whole fraction w f some ∙ ap (λ b. Some (decimal_from b whole fraction)) (sym plus.1)
-  | inr minus ↦ ap (λ x. decimal_of (x ∷ (whole ++ pointed fraction))) minus.0 ∙ minus_read (whole ++ pointed fraction)
+  | inr minus ↦ ap (λ x. decimal_of (x ∷ (whole ++ point_and_digits fraction))) minus.0 ∙ minus_read (whole ++ point_and_digits fraction)
       ∙ unsigned_read true whole fraction w f some ∙ ap (λ b. Some (decimal_from b whole fraction)) (sym minus.1)
 ]
 sign_read (c ∷ d ∷ cs) negative whole fraction s w f some = absurd s
@@ -90,16 +90,16 @@ found text d h =
 -- the decimal d is spelled without its sign
 record IsUnsigned (text : List ℕ) (negative : Bool) (d : Decimal) : Type 0 where
   sign : d.negative ≡ negative
-  spelled : text ≡ d.whole ++ pointed d.fraction
+  spelled : text ≡ d.whole ++ point_and_digits d.fraction
   whole : IsTrue (are_digits d.whole)
   fraction : IsTrue (are_digits d.fraction)
   some : 0 < length (d.whole ++ d.fraction)
 
 unsigned_at : (negative : Bool) (whole fraction : List ℕ) (d : Decimal) → ◌≡◌ {A = Option Decimal} (Some (decimal_from negative whole fraction)) (Some d)
-    → are_digits whole ≡ true → are_digits fraction ≡ true → 0 < length (whole ++ fraction) → IsUnsigned (whole ++ pointed fraction) negative d
+    → are_digits whole ≡ true → are_digits fraction ≡ true → 0 < length (whole ++ fraction) → IsUnsigned (whole ++ point_and_digits fraction) negative d
 unsigned_at negative whole fraction d e w f some =
     let same : decimal_from negative whole fraction ≡ d = cc in
-    subst (λ x. IsUnsigned (whole ++ pointed fraction) negative x) same (record { sign = refl; spelled = refl; whole = w; fraction = f; some = some })
+    subst (λ x. IsUnsigned (whole ++ point_and_digits fraction) negative x) same (record { sign = refl; spelled = refl; whole = w; fraction = f; some = some })
 
 rest_spelled : (negative : Bool) (whole rest : List ℕ) (d : Decimal) → are_digits whole ≡ true → with_fraction negative whole rest ≡ Some d → IsUnsigned (whole ++ rest) negative d
 rest_spelled negative [] [] d w e = absurd (cc)

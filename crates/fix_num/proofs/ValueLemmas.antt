@@ -1,4 +1,4 @@
--- What the digits that are kept and those behind them are worth.
+-- What the digits that are kept and those after them are worth.
 use Rattle.std.proofs.Common.{◌≡◌, ℕ, ◌+◌, ◌-◌, ◌*◌, ◌^◌, ◌<◌, ◌≤◌, min, zero, suc, refl, arith, ap, sym, ◌∙◌, ◌∷◌, [], ◌++◌, List, true, take, drop, replicate, length, append_assoc, inl, inr, pow-suc, le_refl, mul_assoc, IsTrue, ◌==◌}
 use Rattle.std.specs.List.{list_all}
 use Rattle.std.specs.Char.{digit_value, is_ascii_digit}
@@ -14,7 +14,7 @@ use Rattle.fix_num.proofs.DecimalLemmas.{digits_value_after-append}
 digit_below : (d : ℕ) → is_ascii_digit d ≡ true → digit_value d < 10
 digit_below d h = grind (arith, nat_tests)
 
--- digits behind n
+-- digits after n
 pub digits_value_after_is : (n : ℕ) (ds : List ℕ) → digits_value_after 10 n ds ≡ n * 10 ^ length ds + digits_value 10 ds
 digits_value_after_is n [] = omega arith
 digits_value_after_is n (d ∷ ds) =
@@ -51,7 +51,7 @@ scaled_up w p f enough =
     let sum : p - f + f ≡ p = omega arith in
     mul_assoc w (10 ^ (p - f)) (10 ^ f) ∙ ap (λ x. w * x) (sym (pow-add 10 (p - f) f) ∙ ap (λ n. 10 ^ n) sum)
 
--- either no zeros are missing, or nothing stands behind
+-- either no zeros are missing, or nothing stands after
 scaled : (w k r p f : ℕ) → (f ≤ p → (k ≡ 0) × (r ≡ 0)) → (w * 10 ^ (p - f) * 10 ^ k + r) * 10 ^ min p f ≡ (w * 10 ^ k + r) * 10 ^ p
 scaled w k r p f nothing = elim (cases_lt p f) [
   | inl fine ↦
@@ -65,7 +65,7 @@ scaled w k r p f nothing = elim (cases_lt p f) [
       rw (zero_k, zero_r, all) (omega (arith, scaled_up w p f coarse))
 ]
 
--- the digits kept and the zeros for missing ones, times a one at the first place that isn't kept, with what stands behind
+-- the digits kept and the zeros for missing ones, times a one at the first place that isn't kept, with what stands after
 pub units_with_rest : (places : ℕ) (d : Decimal)
     → (units_of places d * 10 ^ length (drop places d.fraction) + digits_value 10 (drop places d.fraction)) * 10 ^ min places (length d.fraction)
     ≡ digits_value 10 (d.whole ++ d.fraction) * 10 ^ places

@@ -1,5 +1,7 @@
+pub mod Clamping
 pub mod Decimal
 pub mod Digits
+pub mod Integer
 pub mod Parts
 pub mod Print
 pub mod Rounded

@@ -2,5 +2,6 @@
 use Rattle.fix_num.specs.declared.parts.Parts.{Parts}
 use Rattle.fix_num.specs.Decimal.{Decimal}
 
+-- the decimal of these parts
 abbrev pub decimal_parts : Parts → Decimal
 decimal_parts p = record { negative = p.negative; whole = p.whole.now; fraction = p.fraction.now }

@@ -3,8 +3,8 @@ use Rattle.std.specs.Prelude.{ℤ, pos, ◌+ℤ◌, ◌*ℤ◌, ◌≤ℤ◌, �
 use Rattle.std.specs.Int.{int_div_euclid}
 
 -- the whole number nearest to a / b, for a positive b: the floor of (2a + b) / (2b)
-unfoldable pub rounded : ℤ → ℤ → ℤ
-rounded a b = int_div_euclid (pos 2 *ℤ a +ℤ b) (pos 2 *ℤ b)
+unfoldable pub rounded_quotient : ℤ → ℤ → ℤ
+rounded_quotient a b = int_div_euclid (pos 2 *ℤ a +ℤ b) (pos 2 *ℤ b)
 
 -- r is at most a half above a / b, and less than a half below it
 pub record IsNearest (a b r : ℤ) : Type 0 where

@@ -4,14 +4,14 @@ ghost use Rattle.std.specs.List.{list_all};
 ghost use Rattle.std.specs.Char.{is_ascii_digit};
 ghost use Rattle.std.specs.Str.Parse.{digits_value_after};
 ghost use Rattle.fix_num.specs.Digits.{are_digits};
-ghost use Rattle.fix_num.specs.Decimal.{reading_of, exact_reading, decimal_of, unsigned_of, with_fraction, units_of, within, signed};
+ghost use Rattle.fix_num.specs.Decimal.{reading_of, exact_reading, decimal_of, unsigned_of, with_fraction, units_of, number_within, signed_number};
 ghost use Rattle.fix_num.specs.Parts.{decimal_parts};
 
 use crate::parts::Parts;
 use thiserror::Error;
 
 /// Why a text is no number of the wanted form.
-#[derive(Clone, Copy, Debug, PartialEq, Eq, Hash, Error)]
+#[derive(Clone, Copy, Debug, PartialEq, Eq, Error)]
 pub enum NumFault {
     #[error("not a decimal")]
     Syntax,
@@ -59,7 +59,7 @@ fn exact_number(parts: &Parts, places: usize, limit: u64) -> Result<i64, NumFaul
 /// The number of this size, unless that passes the limit.
 pub(crate) fn number_within(negative: bool, size: u64, limit: u64) -> Result<i64, NumFault>
     requires { limit < 2 ^ 63 }
-    ensures { result ≡ within limit (signed negative size) }
+    ensures { result ≡ number_within limit (signed_number negative size) }
 {
     if size > limit {
         return Err(NumFault::TooLarge);
@@ -162,7 +162,7 @@ pub(crate) fn units_at(parts: &Parts, places: usize) -> u64
     with_digits(exact, &ZEROS[..places - kept]) as u64
 }
 
-/// The number that the digits write behind those of `start`, or `OVER` where it is more.
+/// The number that the digits write after those of `start`, or `OVER` where it is more.
 fn with_digits(start: u128, digits: &[u8]) -> u128
     requires start { start ≤ 2 ^ 63 }
     requires digits { IsTrue (are_digits digits.now) }

@@ -2,9 +2,9 @@
 ghost use Rattle.std.specs.Prelude.{◌≡◌, ◌↔◌, ℕ, ◌+◌, ◌*◌, ◌^◌, ◌<◌, ◌≤◌, ℤ, pos, ◌<ℤ◌, unsigned_abs, List, ◌++◌, length, IsTrue, false};
 ghost use Rattle.std.specs.Str.Parse.{digits_value};
 ghost use Rattle.fix_num.specs.Decimal.{Decimal, IsDecimal, Stands, decimal_of, is_exact, reading_of, units_of};
-ghost use Rattle.fix_num.specs.Print.{IsShortest, text_of};
+ghost use Rattle.fix_num.specs.Print.{IsShortest, decimal_text};
 ghost use Rattle.fix_num.specs.Rounded.{StandsNear, rounded_reading_of};
-ghost use Rattle.fix_num.specs.Rounding.{IsNearest, rounded};
+ghost use Rattle.fix_num.specs.Rounding.{IsNearest, rounded_quotient};
 
 use crate::decimal::NumFault;
 
@@ -34,20 +34,20 @@ pub fn exact_value()
 /// A printed number reads back as itself.
 pub fn printed_reads_back()
     ensures { (places limit : ℕ) (v : ℤ) → unsigned_abs v ≤ limit → unsigned_abs v < 2 ^ 64
-        → reading_of places limit (text_of places v) ≡ Ok v }
+        → reading_of places limit (decimal_text places v) ≡ Ok v }
 {}
 
 /// The printed text is the shortest that CSS serializes: a `-` exactly where the number is negative, no `+`, no zero
 /// before another digit and none at the end.
 pub fn printed_is_shortest()
     ensures { (places : ℕ) (v : ℤ) → unsigned_abs v < 2 ^ 64
-        → (d : Decimal) × IsDecimal (text_of places v) d × IsShortest (text_of places v) d × (IsTrue d.negative ↔ (v <ℤ pos 0)) }
+        → (d : Decimal) × IsDecimal (decimal_text places v) d × IsShortest (decimal_text places v) d × (IsTrue d.negative ↔ (v <ℤ pos 0)) }
 {}
 
 /// The rounding gives the nearest number, the greater one of two that are as near, and no other number is so.
 pub fn rounds_to_nearest()
-    ensures nearest { (a b : ℤ) → pos 0 <ℤ b → IsNearest a b (rounded a b) }
-    ensures only { (a b r : ℤ) → pos 0 <ℤ b → IsNearest a b r → r ≡ rounded a b }
+    ensures nearest { (a b : ℤ) → pos 0 <ℤ b → IsNearest a b (rounded_quotient a b) }
+    ensures only { (a b r : ℤ) → pos 0 <ℤ b → IsNearest a b r → r ≡ rounded_quotient a b }
 {}
 
 /// A rounded reading gives the number nearest to what the text stands for, halves towards plus infinity, where the limit

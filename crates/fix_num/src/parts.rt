@@ -2,7 +2,7 @@
 ghost use Rattle.std.specs.Prelude.{IsTrue};
 ghost use Rattle.fix_num.specs.Digits.{are_digits};
 
-/// A decimal's sign, its digits before the point and those behind it.
+/// A decimal's sign, its digits before the point and those after it.
 #[derive(Drop)]
 pub(crate) struct Parts<'a> {
     pub negative: bool,

@@ -1,7 +1,7 @@
 //! Printing a number as a decimal.
 ghost use Rattle.std.specs.Prelude.{◌≡◌, ◌≤◌, ◌<◌, ◌^◌, ◌++◌, OnOk, OnErr};
 ghost use Rattle.std.specs.Io.{StartsWith};
-ghost use Rattle.fix_num.specs.Print.{text_of, fraction_text};
+ghost use Rattle.fix_num.specs.Print.{decimal_text, fraction_text};
 
 use itoa::Buffer;
 use std::alloc::AllocError;
@@ -10,7 +10,7 @@ use std::alloc::AllocError;
 /// before a negative one. Where memory runs out nothing is appended.
 pub fn print_fix(out: &mut Vec<u8>, v: i64, places: u32) -> Result<(), AllocError>
     requires { places ≤ 9 }
-    ensures ok { OnOk result (out.new.items ≡ out.old.items ++ text_of places v) }
+    ensures ok { OnOk result (out.new.items ≡ out.old.items ++ decimal_text places v) }
     ensures err { OnErr result (out.new.items ≡ out.old.items) }
 {
     let before = out.len();
@@ -21,10 +21,10 @@ pub fn print_fix(out: &mut Vec<u8>, v: i64, places: u32) -> Result<(), AllocErro
     result
 }
 
-#[tactic(auto, using(crate::proofs::PrintLemmas::starts_with_more), unfolding(crate::specs::Print::text_of))]
+#[tactic(auto, using(crate::proofs::PrintLemmas::starts_with_more), unfolding(crate::specs::Print::decimal_text))]
 fn push_number(out: &mut Vec<u8>, v: i64, places: u32) -> Result<(), AllocError>
     requires { places ≤ 9 }
-    ensures ok { OnOk result (out.new.items ≡ out.old.items ++ text_of places v) }
+    ensures ok { OnOk result (out.new.items ≡ out.old.items ++ decimal_text places v) }
     ensures kept { OnErr result (StartsWith out.new.items out.old.items) }
 {
     let unit = unit_of(places);

@@ -5,7 +5,8 @@ use Rattle.std.specs.Ordering.{int_eq}
 use Rattle.std.proofs.lemmas.Int.{ints, clamps}
 use Rattle.std.proofs.lemmas.Bool.Decides.{Decides-int_eq}
 use Rattle.fix_num.specs.declared.units.Fix.{Fix}
-use Rattle.value_types.specs.Table.{black, range_of}
+use Rattle.value_types.specs.Ranges.{highest_of, lowest_of}
+use Rattle.value_types.specs.Table.{black, fix, range_of}
 use Rattle.value_types.specs.Validity.{IsValid, IsAlpha}
 use Rattle.value_types.specs.declared.property.PropertyId.{PropertyId}
 use Rattle.value_types.specs.declared.value.Value.{Value}
@@ -13,7 +14,7 @@ use Rattle.value_types.specs.declared.value.Value.TheVariants as value
 use Rattle.interpolation.specs.Colors.{alpha_between, color_with, channel_between}
 use Rattle.interpolation.specs.Equality.{is_same}
 use Rattle.interpolation.specs.Interpolation.{beside, by_parts, value_between, number_at, IsBetween}
-use Rattle.interpolation.specs.Numbers.{on_the_way, lowest, highest, number_between, integer_between}
+use Rattle.interpolation.specs.Numbers.{on_the_way, number_between, integer_between}
 use Rattle.interpolation.proofs.EqualityLemmas.{same_tells, same_as_itself}
 use Rattle.interpolation.proofs.NumberLemmas.{way_fits, clamped_fits}
 use Rattle.interpolation.proofs.ValidityLemmas.{IsFrom, from_number, from_percent, at_each_output, beside_valid}
@@ -58,7 +59,7 @@ alpha_at : (r g b : ℕ) (a : Fix) (r' g' b' : ℕ) (a' : Fix) (q : ℤ) (alpha 
 unfolding color_with
 alpha_at r g b a r' g' b' a' q alpha k = go (int_eq alpha.0 (pos 0)) refl k where
   go : (t : Bool) → int_eq alpha.0 (pos 0) ≡ t → (k : ℕ)
-      → number_at k (if t then black 0 else value.Color (channel_between r a r' a' q alpha) (channel_between g a g' a' q alpha) (channel_between b a b' a' q alpha) alpha) ≡ number_at k (value.Angle alpha)
+      → number_at k (if t then black (fix 0) else value.Color (channel_between r a r' a' q alpha) (channel_between g a g' a' q alpha) (channel_between b a b' a' q alpha) alpha) ≡ number_at k (value.Angle alpha)
   go true e zero = sym ((Decides-int_eq alpha.0 (pos 0)).0 e)
   go true e (suc k) = refl
   go false e k = refl
@@ -75,7 +76,7 @@ number_fits : (p : PropertyId) (m n : Fix) (q : ℤ) → pos 0 ≤ℤ q → q �
     → IsBetween m.0 n.0 (number_between p m n q).0
 unfolding number_between
 number_fits p m n q low high h k =
-    clamped_fits (lowest (range_of p)) (highest (range_of p)) m.0 n.0 (on_the_way m.0 n.0 q) h.low h.high k.low k.high (way_fits m.0 n.0 q low high)
+    clamped_fits (lowest_of (range_of p)) (highest_of (range_of p)) m.0 n.0 (on_the_way m.0 n.0 q) h.low h.high k.low k.high (way_fits m.0 n.0 q low high)
 
 alpha_fits : (a b : Fix) (q : ℤ) → pos 0 ≤ℤ q → q ≤ℤ pos (10 ^ 9) → IsAlpha a → IsAlpha b → IsBetween a.0 b.0 (alpha_between a b q).0
 unfolding alpha_between
@@ -128,7 +129,7 @@ parts_fit p (value.Length m mp) (value.Length n np) q k h i low high =
     (number_fits p mp np q low high (from_percent p mp h.2) (from_percent p np i.2))
 parts_fit p (value.Int m) (value.Int n) q k h i low high = one_fits m n _ k (integer_fits p m n q low high h i)
 parts_fit p (value.Color r g b a) (value.Color r' g' b' a') q k h i low high =
-    rw (alpha_at r g b a r' g' b' a' q (alpha_between a a' q) k) (one_fits a.0 a'.0 _ k (alpha_fits a a' q low high h.1 i.1))
+    rw (alpha_at r g b a r' g' b' a' q (alpha_between a a' q) k) (one_fits a.0 a'.0 _ k (alpha_fits a a' q low high h.1.alpha i.1.alpha))
 parts_fit p (value.Angle m) (value.Angle n) q k h i low high =
     one_fits m.0 n.0 _ k (number_fits p m n q low high (from_number p m h.1) (from_number p n i.1))
 parts_fit p (value.Pair x xp y yp) (value.Pair x' xp' y' yp') q k h i low high =

@@ -1,27 +1,32 @@
 -- What stands between valid values is valid.
-use Rattle.std.proofs.Common.{◌≡◌, ℕ, ◌^◌, refl, arith}
+use Rattle.std.proofs.Common.{◌≡◌, ℕ, ◌^◌, ◌≤◌, refl, arith}
 use Rattle.std.specs.Prelude.{ℤ, pos, neg_ℤ, ◌*ℤ◌, ◌≤ℤ◌, Bool, true, false, if◌then◌else◌, ◌||◌, MatchBool}
 use Rattle.std.specs.Ordering.{int_eq}
 use Rattle.std.proofs.lemmas.Int.{ints}
-use Rattle.fix_num.specs.Rounding.{rounded}
+use Rattle.fix_num.specs.Clamping.{clamped_number}
+use Rattle.fix_num.specs.Rounding.{rounded_quotient}
+use Rattle.fix_num.specs.declared.limits.TheConstants.{MAX_INTEGER}
 use Rattle.fix_num.specs.declared.units.Fix.{Fix}
+use Rattle.fix_num.specs.declared.units.TheConstants.Bill as bill
+use Rattle.fix_num.specs.declared.units.TheConstants.Fix.{ONE}
 use Rattle.value_types.specs.Table.{fix, black, range_of, keeps_percent}
-use Rattle.value_types.specs.Validity.{IsValid, IsNumberFor, IsPercentFor, IsInRange, IsWithinLimit, IsInteger, IsAlpha}
+use Rattle.value_types.specs.Ranges.{IsInRange, IsInteger, IsWithinLimit, highest_of, lowest_of}
+use Rattle.value_types.specs.Validity.{IsAlpha, IsNumberFor, IsPercentFor, IsValid}
 use Rattle.value_types.specs.declared.property.PropertyId.{PropertyId}
-use Rattle.value_types.specs.declared.table.ValueRange.{ValueRange}
-use Rattle.value_types.specs.declared.table.ValueRange.TheVariants.{All, NotNegative, ZeroToOne, Nothing}
+use Rattle.value_types.specs.declared.range.ValueRange.{ValueRange}
+use Rattle.value_types.specs.declared.range.ValueRange.TheVariants.{All, NotNegative, ZeroToOne, Nothing}
 use Rattle.value_types.specs.declared.value.Value.{Value}
 use Rattle.value_types.specs.declared.value.Value.TheVariants as value
-use Rattle.interpolation.specs.Colors.{alpha_between, color_with}
+use Rattle.interpolation.specs.Colors.{alpha_between, channel_of, color_with}
 use Rattle.interpolation.specs.Equality.{is_same}
 use Rattle.interpolation.specs.Interpolation.{beside, by_parts, value_between}
-use Rattle.interpolation.specs.Numbers.{clamped, on_the_way, lowest, highest, number_between, integer_between}
-use Rattle.interpolation.proofs.NumberLemmas.{clamped_low, clamped_high}
+use Rattle.interpolation.specs.Numbers.{on_the_way, number_between, integer_between}
+use Rattle.fix_num.proofs.ClampLemmas.{clamped_low, clamped_high}
 
 -- a number from the lowest to the highest of a range
 pub record IsFrom (r : ValueRange) (v : ℤ) : Type 0 where
-  pub low : lowest r ≤ℤ v
-  pub high : v ≤ℤ highest r
+  pub low : lowest_of r ≤ℤ v
+  pub high : v ≤ℤ highest_of r
 
 zero_in : (r : ValueRange) → IsFrom r (pos 0)
 zero_in All = record { low = omega (arith, ints); high = omega (arith, ints) }
@@ -29,11 +34,11 @@ zero_in NotNegative = record { low = omega (arith, ints); high = omega (arith, i
 zero_in ZeroToOne = record { low = omega (arith, ints); high = omega (arith, ints) }
 zero_in Nothing = record { low = omega (arith, ints); high = omega (arith, ints) }
 
-clamped_in : (r : ValueRange) (v : ℤ) → IsFrom r (clamped (lowest r) (highest r) v)
+clamped_in : (r : ValueRange) (v : ℤ) → IsFrom r (clamped_number v (lowest_of r) (highest_of r))
 clamped_in r v =
     let zero = zero_in r in
-    let ordered : lowest r ≤ℤ highest r = omega (arith, ints) in
-    record { low = clamped_low (lowest r) (highest r) v ordered; high = clamped_high (lowest r) (highest r) v ordered }
+    let ordered : lowest_of r ≤ℤ highest_of r = omega (arith, ints) in
+    record { low = clamped_low v (lowest_of r) (highest_of r) ordered; high = clamped_high v (lowest_of r) (highest_of r) ordered }
 
 limit_from : (r : ValueRange) (n : Fix) → IsFrom r n.0 → IsWithinLimit n
 limit_from All n h = omega (arith, ints)
@@ -74,17 +79,17 @@ number_valid p m n q = number_for p (number_between p m n q) (clamped_in (range_
 
 -- between percents that are 0 stands 0
 zero_way : (q : ℤ) → on_the_way (pos 0) (pos 0) q ≡ pos 0
-unfolding on_the_way rounded
+unfolding on_the_way rounded_quotient
 zero_way q = let e : pos 0 *ℤ q ≡ pos 0 = omega (arith, ints) in rw e refl
 
-clamped_zero : (r : ValueRange) → clamped (lowest r) (highest r) (pos 0) ≡ pos 0
-unfolding clamped
+clamped_zero : (r : ValueRange) → clamped_number (pos 0) (lowest_of r) (highest_of r) ≡ pos 0
+unfolding clamped_number
 clamped_zero All = refl
 clamped_zero NotNegative = refl
 clamped_zero ZeroToOne = refl
 clamped_zero Nothing = refl
 
-zero_stays : (r : ValueRange) (a b q : ℤ) → a ≡ pos 0 → b ≡ pos 0 → clamped (lowest r) (highest r) (on_the_way a b q) ≡ pos 0
+zero_stays : (r : ValueRange) (a b q : ℤ) → a ≡ pos 0 → b ≡ pos 0 → clamped_number (on_the_way a b q) (lowest_of r) (highest_of r) ≡ pos 0
 zero_stays r a b q e f = rw (e, f, zero_way q) (clamped_zero r)
 
 percent_valid : (p : PropertyId) (m n : Fix) (q : ℤ) → IsPercentFor p m → IsPercentFor p n → IsPercentFor p (number_between p m n q)
@@ -98,26 +103,36 @@ percent_valid p m n q h k = go (keeps_percent p) h k where
 integer_valid : (i j q : ℤ) → IsInteger (integer_between i j q)
 unfolding integer_between
 integer_valid i j q =
-    let low = clamped_low (neg_ℤ (pos 2147483647)) (pos 2147483647) (on_the_way i j q) (omega (arith, ints)) in
-    let high = clamped_high (neg_ℤ (pos 2147483647)) (pos 2147483647) (on_the_way i j q) (omega (arith, ints)) in
+    let low = clamped_low (on_the_way i j q) (neg_ℤ (pos MAX_INTEGER)) (pos MAX_INTEGER) (omega (arith, ints)) in
+    let high = clamped_high (on_the_way i j q) (neg_ℤ (pos MAX_INTEGER)) (pos MAX_INTEGER) (omega (arith, ints)) in
     omega (arith, ints)
 
 alpha_valid : (a b : Fix) (q : ℤ) → IsAlpha (alpha_between a b q)
 unfolding alpha_between
 alpha_valid a b q =
-    let high : pos 0 ≤ℤ pos (10 ^ 6) = omega (arith, ints) in
-    (clamped_low (pos 0) (pos (10 ^ 6)) (on_the_way a.0 b.0 q) high, clamped_high (pos 0) (pos (10 ^ 6)) (on_the_way a.0 b.0 q) high)
+    let high : pos 0 ≤ℤ ONE.0 = omega (arith, ints) in
+    (clamped_low (on_the_way a.0 b.0 q) (pos 0) ONE.0 high, clamped_high (on_the_way a.0 b.0 q) (pos 0) ONE.0 high)
 
 -- what holds of both branches holds of the choice
 pub either : {T : Type 0} (P : T → Type 0) (b : Bool) (x y : T) → P x → P y → P (if b then x else y)
 either P true x y h k = h
 either P false x y h k = k
 
+channel_small : (v : ℤ) (alpha : Fix) → channel_of v alpha ≤ 255
+unfolding channel_of
+channel_small v alpha =
+    let channel = rounded_quotient v (bill.ONE.0 *ℤ alpha.0) in
+    let low = clamped_low channel (pos 0) (pos 255) (omega (arith, ints)) in
+    let high = clamped_high channel (pos 0) (pos 255) (omega (arith, ints)) in
+    omega (arith, ints, low, high)
+
 color_valid : (p : PropertyId) (r g b : ℕ) (a : Fix) (r' g' b' : ℕ) (a' : Fix) (q : ℤ) (alpha : Fix) → IsAlpha alpha
     → IsValid p (value.Color r g b a) → IsValid p (color_with r g b a r' g' b' a' q alpha)
 unfolding color_with
 color_valid p r g b a r' g' b' a' q alpha fits h =
-    either (IsValid p) (int_eq alpha.0 (pos 0)) (black 0) _ (h.0, (omega (arith, ints), omega (arith, ints))) (h.0, fits)
+    either (IsValid p) (int_eq alpha.0 (pos 0)) (black (fix 0)) _
+    (h.0, record { red = omega arith; green = omega arith; blue = omega arith; alpha = (omega (arith, ints), omega (arith, ints)) })
+    (h.0, record { red = channel_small _ alpha; green = channel_small _ alpha; blue = channel_small _ alpha; alpha = fits })
 
 pub beside_valid : (p : PropertyId) (w v : Value) → IsValid p w → IsValid p v → IsValid p (beside w v)
 beside_valid p (value.Angle n) value.Absent h k = (h.0, zero_valid p)

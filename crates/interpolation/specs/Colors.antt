@@ -1,16 +1,19 @@
--- Interpolation of colours by premultiplied channels (CSS Color 4, section 12.3, "interpolating with alpha").
-use Rattle.std.specs.Prelude.{ℕ, ◌^◌, ℤ, pos, ◌+ℤ◌, ◌-ℤ◌, ◌*ℤ◌, unsigned_abs, if◌then◌else◌}
+-- Interpolation of colours by premultiplied channels (CSS Color 4, "Interpolating with Alpha").
+use Rattle.std.specs.Prelude.{ℕ, ℤ, pos, ◌+ℤ◌, ◌-ℤ◌, ◌*ℤ◌, unsigned_abs, if◌then◌else◌}
 use Rattle.std.specs.Ordering.{int_eq}
-use Rattle.fix_num.specs.Rounding.{rounded}
+use Rattle.fix_num.specs.Clamping.{clamped_number}
+use Rattle.fix_num.specs.Rounding.{rounded_quotient}
 use Rattle.fix_num.specs.declared.units.Fix.{Fix}
-use Rattle.value_types.specs.Table.{black}
+use Rattle.fix_num.specs.declared.units.TheConstants.Bill as bill
+use Rattle.fix_num.specs.declared.units.TheConstants.Fix as fix
+use Rattle.value_types.specs.Table.{black, fix as units}
 use Rattle.value_types.specs.declared.value.Value.{Value}
 use Rattle.value_types.specs.declared.value.Value.TheVariants as value
-use Rattle.interpolation.specs.Numbers.{clamped, on_the_way}
+use Rattle.interpolation.specs.Numbers.{on_the_way}
 
 -- the alpha at output q, from 0 to 1
 unfoldable pub alpha_between : Fix → Fix → ℤ → Fix
-alpha_between a b q = record { 0 = clamped (pos 0) (pos (10 ^ 6)) (on_the_way a.0 b.0 q) }
+alpha_between a b q = record { 0 = clamped_number (on_the_way a.0 b.0 q) (pos 0) fix.ONE.0 }
 
 -- a channel multiplied by its alpha
 abbrev pub premultiplied : ℕ → Fix → ℤ
@@ -18,11 +21,11 @@ premultiplied c alpha = pos c *ℤ alpha.0
 
 -- the premultiplied channel at output q on the way from c to d, in billionths
 abbrev pub premultiplied_between : ℤ → ℤ → ℤ → ℤ
-premultiplied_between c d q = (c *ℤ pos (10 ^ 9)) +ℤ ((d -ℤ c) *ℤ q)
+premultiplied_between c d q = (c *ℤ bill.ONE.0) +ℤ ((d -ℤ c) *ℤ q)
 
 -- the channel that is this one when it is premultiplied with the alpha, from 0 to 255
 unfoldable pub channel_of : ℤ → Fix → ℕ
-channel_of v alpha = unsigned_abs (clamped (pos 0) (pos 255) (rounded v (pos (10 ^ 9) *ℤ alpha.0)))
+channel_of v alpha = unsigned_abs (clamped_number (rounded_quotient v (bill.ONE.0 *ℤ alpha.0)) (pos 0) (pos 255))
 
 -- the channel at output q on the way from c with alpha a to d with alpha b, where that has this alpha
 abbrev pub channel_between : ℕ → Fix → ℕ → Fix → ℤ → Fix → ℕ
@@ -31,5 +34,5 @@ channel_between c a d b q alpha = channel_of (premultiplied_between (premultipli
 -- the colour with this alpha at output q: transparent black where the alpha is 0
 unfoldable pub color_with : ℕ → ℕ → ℕ → Fix → ℕ → ℕ → ℕ → Fix → ℤ → Fix → Value
 color_with r g b a r' g' b' a' q alpha =
-    (if int_eq alpha.0 (pos 0) then black 0
+    (if int_eq alpha.0 (pos 0) then black (units 0)
     else value.Color (channel_between r a r' a' q alpha) (channel_between g a g' a' q alpha) (channel_between b a b' a' q alpha) alpha)

@@ -1,7 +1,8 @@
 -- Interpolation of computed values (Web Animations Level 1, "animating properties"; the "animation type" lines of the properties).
-use Rattle.std.specs.Prelude.{ℕ, ◌^◌, ℤ, pos, ◌≤ℤ◌, int_lt, Bool, true, false, ◌&&◌, ◌||◌, if◌then◌else◌, List, [], ◌∷◌, slice_index_or}
+use Rattle.std.specs.Prelude.{ℕ, ℤ, pos, ◌≤ℤ◌, int_lt, Bool, true, false, ◌&&◌, ◌||◌, if◌then◌else◌, List, [], ◌∷◌, slice_index_or}
 use Rattle.std.specs.Int.{int_min, int_max}
 use Rattle.std.specs.Ordering.{int_eq}
+use Rattle.fix_num.specs.declared.units.TheConstants.Bill.{ONE}
 use Rattle.value_types.specs.Table.{fix, takes}
 use Rattle.value_types.specs.declared.property.PropertyId.{PropertyId}
 use Rattle.value_types.specs.declared.table.ValueKind.{ValueKind}
@@ -29,6 +30,7 @@ kind_of value.Absent = kind.Absent
 kind_of (value.Visible v) = kind.Visibility
 kind_of (value.Display d) = kind.Display
 
+-- not hidden and not collapsed
 abbrev pub is_visible : Visibility → Bool
 is_visible Visible = true
 is_visible Hidden = false
@@ -65,7 +67,7 @@ beside w v = v
 
 -- visible all the way between the ends (Web Animations Level 1, animation of visibility)
 abbrev pub visibility_between : Visibility → Visibility → ℤ → Visibility
-visibility_between v w q = (if int_lt q (pos 0) then v else if int_lt (pos (10 ^ 9)) q then w else Visible)
+visibility_between v w q = (if int_lt q (pos 0) then v else if int_lt ONE.0 q then w else Visible)
 
 -- the value at output q between values of one kind, by their parts; other values stay: they are equal or can't be interpolated
 abbrev pub by_parts : PropertyId → Value → Value → ℤ → Value
@@ -83,7 +85,7 @@ by_parts p a b q = a
 unfoldable pub value_between : PropertyId → Value → Value → ℤ → Value
 value_between p a b q =
     (if int_eq q (pos 0) || is_same a b then a
-    else if int_eq q (pos (10 ^ 9)) then b
+    else if int_eq q ONE.0 then b
     else by_parts p (beside b a) (beside a b) q)
 
 -- ---- what lies between the ends

@@ -1,10 +1,10 @@
-//! Colours at an output, by premultiplied channels (CSS Color 4, section 12.3).
+//! Colours at an output, by premultiplied channels (CSS Color 4, "Interpolating with Alpha").
 ghost use Rattle.std.specs.Prelude.{◌≡◌, ◌≤◌, ◌*◌, ◌^◌, pos, ◌*ℤ◌, ◌<ℤ◌, ◌≤ℤ◌, unsigned_abs};
 ghost use Rattle.value_types.specs.Validity.{IsAlpha};
 ghost use Rattle.interpolation.specs.Colors.{alpha_between, channel_between, channel_of, color_with, premultiplied, premultiplied_between};
 
-use crate::number::{ONE_OUTPUT, on_the_way, within};
-use fix_num::{Bill, Fix, rnd};
+use crate::number::on_the_way;
+use fix_num::{Bill, Fix, clamp, rnd};
 use value_types::Value;
 
 /// The channels of sRGB and the alpha of a colour.
@@ -81,7 +81,7 @@ fn alpha_between(a: Fix, b: Fix, q: Bill) -> Fix
     ensures value { result ≡ alpha_between a b q.0 }
     ensures alpha { IsAlpha result }
 {
-    Fix(within(0, 1_000_000, on_the_way(a.0, b.0, q.0)))
+    Fix(clamp(on_the_way(a.0, b.0, q.0), 0, Fix::ONE.0))
 }
 
 /// The channel multiplied by its alpha.
@@ -101,7 +101,7 @@ fn premultiplied_between(c: i64, d: i64, q: Bill) -> i128
     ensures value { result ≡ premultiplied_between c d q.0 }
     ensures size { unsigned_abs result ≤ 10 ^ 20 }
 {
-    i128::from(c) * i128::from(ONE_OUTPUT) + scaled(d - c, q.0)
+    i128::from(c) * i128::from(Bill::ONE.0) + scaled(d - c, q.0)
 }
 
 /// The difference at output `q`, in billionths.
@@ -122,6 +122,6 @@ fn channel_of(v: i128, alpha: Fix) -> u8
     requires some { pos 0 <ℤ alpha.0 }
     ensures { result ≡ channel_of v alpha }
 {
-    let one = i128::from(ONE_OUTPUT) * i128::from(alpha.0);
-    within(0, 255, rnd(v, one)) as u8
+    let one = i128::from(Bill::ONE.0) * i128::from(alpha.0);
+    clamp(rnd(v, one), 0, 255) as u8
 }

@@ -6,6 +6,8 @@ ghost use Rattle.value_types.specs.declared.value.Value.{Value};
 ghost use Rattle.interpolation.specs.Equality.{is_same};
 ghost use Rattle.interpolation.specs.Interpolation.{IsBetween, is_interpolable, number_at, value_between};
 
+use fix_num::Bill;
+
 /// Values are the same exactly where they are equal.
 pub fn same_is_equal()
     ensures { (a b : Value) → IsTrue (is_same a b) ↔ (a ≡ b) }
@@ -19,7 +21,7 @@ pub fn interpolable_either_way()
 /// At output 0 stands the first value, at output 1 the second.
 pub fn ends_give_the_ends()
     ensures start { (p : PropertyId) (a b : Value) → value_between p a b (pos 0) ≡ a }
-    ensures end { (p : PropertyId) (a b : Value) → value_between p a b (pos (10 ^ 9)) ≡ b }
+    ensures end { (p : PropertyId) (a b : Value) → value_between p a b Bill.ONE.0 ≡ b }
 {}
 
 /// Between equal values stands that value, at every output.
@@ -34,6 +36,6 @@ pub fn valid_values_stay_valid()
 
 /// At an output from 0 to 1 each number, and the alpha of a colour, lies between those of the ends.
 pub fn numbers_stay_between()
-    ensures { (p : PropertyId) (a b : Value) (q : ℤ) (k : ℕ) → IsValid p a → IsValid p b → pos 0 ≤ℤ q → q ≤ℤ pos (10 ^ 9)
+    ensures { (p : PropertyId) (a b : Value) (q : ℤ) (k : ℕ) → IsValid p a → IsValid p b → pos 0 ≤ℤ q → q ≤ℤ Bill.ONE.0
         → IsBetween (number_at k a) (number_at k b) (number_at k (value_between p a b q)) }
 {}

@@ -6,12 +6,13 @@ ghost use Rattle.interpolation.specs.Interpolation.{beside, by_parts, is_interpo
 
 use crate::color::{Rgba, rgba_between};
 use crate::interpolable::same;
-use crate::number::{ONE_OUTPUT, integer_between, number_between};
+use crate::number::{integer_between, number_between};
 use fix_num::{Bill, Fix};
 use value_types::{PropertyId, Value, ValueKind, Visibility};
 
 /// The value of the property at output `q`, in billionths, on the way from `a` to `b` (Web Animations Level 1,
 /// "animating properties"): `a` at 0, `b` at 1, and past the ends as far as the property's range and the limits go.
+/// Both have to be values of the property, since only then is what stands between them one.
 #[tactic(auto, unfolding(crate::specs::Interpolation::value_between))]
 pub fn between(p: PropertyId, a: Value, b: Value, q: Bill) -> Value
     requires from { IsValid p a }
@@ -24,7 +25,7 @@ pub fn between(p: PropertyId, a: Value, b: Value, q: Bill) -> Value
     if q.0 == 0 || same(a, b) {
         return a;
     }
-    if q.0 == ONE_OUTPUT {
+    if q.0 == Bill::ONE.0 {
         return b;
     }
     by_parts(p, beside(b, a), beside(a, b), q)
@@ -141,7 +142,7 @@ fn visibility_between(v: Visibility, w: Visibility, q: Bill) -> Visibility
 {
     if q.0 < 0 {
         v
-    } else if q.0 > ONE_OUTPUT {
+    } else if q.0 > Bill::ONE.0 {
         w
     } else {
         Visibility::Visible

@@ -4,7 +4,9 @@ use Rattle.std.specs.List.{list_all}
 use Rattle.std.proofs.lemmas.Bool.{and_parts}
 use Rattle.std.proofs.lemmas.Bool.Decides.{nat_tests}
 use Rattle.std.proofs.lemmas.Int.{ints}
+use Rattle.fix_num.specs.Integer.{has_no_point}
 use Rattle.fix_num.specs.Rounded.{StandsNear}
+use Rattle.fix_num.proofs.IntegerLemmas.{integer_near, integer_stands}
 use Rattle.token_parts.specs.Keywords.{names, look_up}
 use Rattle.token_parts.specs.declared.fault.ValueFault.TheVariants.{Bound}
 use Rattle.token_parts.specs.Parts.{Piece, Ident, Function, Number, Comma, Close}
@@ -17,7 +19,8 @@ use Rattle.list_text.specs.Numbers.{clamp, clamped, nearest}
 use Rattle.list_text.specs.Easings.{IsAbscissa, IsEasingAnswer, IsEasingSpelling, IsStepCount, curve, easing_words, jump_words, steps, steps_and_jump, word}
 use Rattle.list_text.specs.ItemReading.{easing_read, judged}
 use Rattle.list_text.specs.Reading.{◌>>=◌, Numbers, abscissa, comma_at, curve_of, easing_of, easing_within, function_of, is_close, jump_of, natural, point_at, step_count, steps_of}
-use Rattle.list_text.proofs.OptionLemmas.{AllRows, bound, of_row, only_one, passed}
+use Rattle.token_parts.proofs.KeywordLemmas.{AllRows, of_row, only_one}
+use Rattle.list_text.proofs.OptionLemmas.{bound, passed}
 use Rattle.list_text.proofs.ViewLemmas.{Reads, as_it_is, at_limits, clamped_was, natural_found, natural_was, plain, same_test, sizes}
 
 -- the easing with its numbers seen so
@@ -48,7 +51,7 @@ step_count_was : (n : List ℕ) (jump : Jump) (e : Easing) → step_count clampe
     → (count : ℕ) × IsStepCount n jump count × (view_easing clamp (Steps count jump) ≡ e)
 unfolding step_count
 step_count_was n jump e h =
-    let whole = passed (list_all (λ b. not (b == 46)) n) _ e h in
+    let whole = passed (has_no_point n) _ e h in
     let step = bound (natural clamped 0 1000000 n) _ e whole.1 in
     let enough = passed (nat_le (fewest_steps jump) step.0) _ e step.2 in
     let was = natural_was 0 1000000 n step.0 step.1 in
@@ -57,7 +60,7 @@ step_count_was n jump e h =
     let most = few jump in
     let same : Steps step.0 jump ≡ e = cc (enough.1) in
     let at_least : fewest_steps jump ≤ was.0 = elim size [ inl s ↦ omega (arith, s) | inr s ↦ omega (arith, s) ] in
-    (was.0, record { value = record { whole = whole.0; value = was.1 }; enough = at_least }, ap (λ z. Steps (unsigned_abs z) jump) was.2 ∙ same)
+    (was.0, record { value = record { digits = whole.0; value = integer_near n (pos was.0) whole.0 was.1 }; enough = at_least }, ap (λ z. Steps (unsigned_abs z) jump) was.2 ∙ same)
 
 -- the end of a step easing
 abbrev pub IsJumpEnd : List Piece → Jump → Type 0
@@ -198,11 +201,11 @@ step_count_found : (num : Numbers) (view : ℕ → ℤ → ℤ) (n : List ℕ) (
     → step_count num n jump ≡ Some (view_easing view (Steps count jump))
 unfolding step_count
 step_count_found num view n jump count r h =
-    let k = natural_found num view 0 1000000 count n r h.value.value in
+    let k = natural_found num view 0 1000000 count n r (integer_stands n (pos count) h.value.value) in
     let most = few jump in
     let enough = h.enough in
     let low : fewest_steps jump ≤ k.0 = elim k.3 [ inl s ↦ omega (arith, s) | inr s ↦ omega (arith, s) ] in
-    rw (h.value.whole, k.1, to_le (fewest_steps jump) k.0 low) (ap (λ z. Some (Steps (unsigned_abs z) jump)) (sym k.2))
+    rw (h.value.digits, k.1, to_le (fewest_steps jump) k.0 low) (ap (λ z. Some (Steps (unsigned_abs z) jump)) (sym k.2))
 
 abscissa_at : (num : Numbers) (view : ℕ → ℤ → ℤ) (n : List ℕ) (x : ℕ) → Reads num view → StandsNear 3 n (pos x) → x ≤ 1000 → abscissa num n ≡ Some (pos x)
 unfolding abscissa

@@ -6,7 +6,7 @@ use Rattle.std.proofs.lemmas.Int.{ints, fits_signed_from_abs, to_z-of_z}
 use Rattle.std.specs.Int.{w32, w64, cast_signed, cast_unsigned}
 use mir.Val.{SFits}
 use Rattle.std.proofs.Math.Nat.{mul-le-mul_right}
-use Rattle.fix_num.specs.Decimal.{Decimal, IsDecimal, decimal_of, signed, unsigned_of}
+use Rattle.fix_num.specs.Decimal.{Decimal, IsDecimal, decimal_of, is_minus, signed_number}
 use Rattle.fix_num.specs.Rounded.{StandsNear, rounded_reading_of, rounded_units}
 use Rattle.fix_num.specs.Rounding.{IsNearest}
 use Rattle.fix_num.specs.declared.decimal.NumFault.TheVariants.{Syntax, TooFine, TooLarge}
@@ -14,7 +14,8 @@ use Rattle.fix_num.proofs.PrintLemmas.{power_positive}
 use Rattle.fix_num.proofs.RoundedReadingLemmas.{far_told, near_told, none_told, never_fine}
 use Rattle.fix_num.proofs.RoundingLemmas.{nearest_only, nearest as rounded_near}
 use Rattle.fix_num.proofs.SpellingLemmas.{found, spelled}
-use Rattle.list_text.specs.Numbers.{clamp, clamped, is_minus, nearest}
+use Rattle.fix_num.proofs.SignLemmas.{sign_of, size_of_signed}
+use Rattle.list_text.specs.Numbers.{clamp, clamped, nearest}
 
 -- ---- the nearest number
 
@@ -38,62 +39,21 @@ pub near_was : (places limit : ℕ) (text : List ℕ) (v : ℤ) → nearest plac
 unfolding nearest
 near_was places limit text v h = near_at places text v (decimal_of text) refl h
 
--- ---- its sign
-
-not_minus : (m b : ℕ) (v : ℤ) → 0 < b → IsNearest (pos m) (pos b) v → is_minus v ≡ false
-not_minus m b (pos n) some h = refl
-not_minus m b (negsuc n) some h = absurd (omega (arith, ints, h.not_below))
-
-is_minus_of : (m b : ℕ) (v : ℤ) → 0 < b → 0 < unsigned_abs v → IsNearest (neg_ℤ (pos m)) (pos b) v → is_minus v ≡ true
-is_minus_of m b (pos n) some size h =
-    let more = mul-le-mul_right {m = 1} {n = n} b (omega (arith, ints)) in
-    absurd (omega (arith, ints, h.not_above, more))
-is_minus_of m b (negsuc n) some size h = refl
-
-minus_at : (negative : Bool) (m b : ℕ) (v : ℤ) → 0 < b → 0 < unsigned_abs v → IsNearest (signed negative m) (pos b) v → is_minus v ≡ negative
-minus_at true m b v some size h = is_minus_of m b v some size h
-minus_at false m b v some size h = not_minus m b v some h
-
-chosen_sign : (a b c negative : Bool) (x y d : Decimal) → x.negative ≡ negative → y.negative ≡ negative
-    → cond a (cond b None (Some x)) (cond c (Some y) None) ≡ Some d → d.negative ≡ negative
-chosen_sign true true c n x y d p q h = absurd (cc)
-chosen_sign true false c n x y d p q h = let same : x ≡ d = cc in cc
-chosen_sign false b true n x y d p q h = let same : y ≡ d = cc in cc
-chosen_sign false b false n x y d p q h = absurd (cc)
-
-unsigned_sign : (negative : Bool) (text : List ℕ) (d : Decimal) → unsigned_of negative text ≡ Some d → d.negative ≡ negative
-unfolding unsigned_of
-unsigned_sign negative text d h = chosen_sign _ _ _ negative _ _ d refl refl h
-
-sign_chosen : (a b c : Bool) (o p q : Option Decimal) (d : Decimal) → (o ≡ Some d → d.negative ≡ true) → (p ≡ Some d → d.negative ≡ false)
-    → (q ≡ Some d → d.negative ≡ false) → cond a None (cond b o (cond c p q)) ≡ Some d → d.negative ≡ b
-sign_chosen true b c o p q d f g h e = absurd (cc)
-sign_chosen false true c o p q d f g h e = f e
-sign_chosen false false true o p q d f g h e = g e
-sign_chosen false false false o p q d f g h e = h e
-
-decimal_sign : (text : List ℕ) (d : Decimal) → decimal_of text ≡ Some d → d.negative ≡ (slice_index text 0 == 45)
-unfolding decimal_of
-decimal_sign text d h = sign_chosen _ (slice_index text 0 == 45) _ _ _ _ d (unsigned_sign true (drop 1 text) d) (unsigned_sign false (drop 1 text) d) (unsigned_sign false text d) h
-
 -- ---- past the limit
 
 pub clamp_small : (limit : ℕ) (v : ℤ) → unsigned_abs v ≤ limit → clamp limit v ≡ v
 clamp_small limit v h = let e : nat_le (unsigned_abs v) limit ≡ true = grind (arith, nat_tests) in rw e refl
 
-pub clamp_large : (limit : ℕ) (v : ℤ) → limit < unsigned_abs v → clamp limit v ≡ signed (is_minus v) (limit + 1)
+pub clamp_large : (limit : ℕ) (v : ℤ) → limit < unsigned_abs v → clamp limit v ≡ signed_number (is_minus v) (limit + 1)
 clamp_large limit v h = let e : nat_le (unsigned_abs v) limit ≡ false = grind (arith, nat_tests) in rw e refl
 
-pub far : (places limit : ℕ) (text : List ℕ) → rounded_reading_of places limit text ≡ Err TooLarge → clamped places limit text ≡ Some (signed (slice_index text 0 == 45) (limit + 1))
+pub far : (places limit : ℕ) (text : List ℕ) → rounded_reading_of places limit text ≡ Err TooLarge → clamped places limit text ≡ Some (signed_number (slice_index text 0 == 45) (limit + 1))
 unfolding clamped
 far places limit text h =
     let told = far_told places limit text h in
     let v : ℤ = told.0 in
     let near : StandsNear places text v = told.1 in
-    let some = power_positive (length near.0.fraction) in
-    let minus : is_minus v ≡ near.0.negative = minus_at near.0.negative _ (10 ^ length near.0.fraction) v some (omega arith) near.2 in
-    let first : near.0.negative ≡ (slice_index text 0 == 45) = decimal_sign text near.0 (found text near.0 near.1) in
-    rw (near_found places limit text v near) (ap Some (clamp_large limit v told.2 ∙ ap (λ b. signed b (limit + 1)) (minus ∙ first)))
+    rw (near_found places limit text v near) (ap Some (clamp_large limit v told.2 ∙ ap (λ b. signed_number b (limit + 1)) (sign_of places text v near (omega arith))))
 
 pub fair : (places limit : ℕ) (text : List ℕ) (v : ℤ) → rounded_reading_of places limit text ≡ Ok v → clamped places limit text ≡ Some v
 unfolding clamped
@@ -112,11 +72,7 @@ unread places limit text h = none_at places limit text (decimal_of text) refl (n
 pub unfine : (places limit : ℕ) (text : List ℕ) → rounded_reading_of places limit text ≡ Err TooFine → clamped places limit text ≡ None
 unfine places limit text h = absurd (never_fine places limit text h)
 
--- ---- the same behind the casts of the code
-
-pub size_of_signed : (b : Bool) (n : ℕ) → unsigned_abs (signed b n) ≡ n
-size_of_signed true n = omega (arith, ints)
-size_of_signed false n = refl
+-- ---- the same after the casts of the code
 
 same_64 : (v : ℤ) → unsigned_abs v ≤ 10 ^ 15 + 1 → cast_signed w64 (cast_unsigned w64 v) ≡ v
 same_64 v h = let fits : SFits w64 v = fits_signed_from_abs w64 v (omega arith) in to_z-of_z w64 v fits
@@ -128,7 +84,7 @@ fair_value places limit text v few h =
     let same : cast_signed w64 (cast_unsigned w64 v) ≡ v = same_64 v (omega arith) in
     rw same (sym (fair places limit text v (sym h)))
 
-pub far_value : (places limit : ℕ) (text : List ℕ) (v : ℤ) → limit ≤ 10 ^ 15 → v ≡ signed (slice_index text 0 == 45) (limit + 1)
+pub far_value : (places limit : ℕ) (text : List ℕ) (v : ℤ) → limit ≤ 10 ^ 15 → v ≡ signed_number (slice_index text 0 == 45) (limit + 1)
     → Err TooLarge ≡ rounded_reading_of places limit text → Some (cast_signed w64 (cast_unsigned w64 v)) ≡ clamped places limit text
 far_value places limit text v few is h =
     let size : unsigned_abs v ≡ limit + 1 = ap unsigned_abs is ∙ size_of_signed (slice_index text 0 == 45) (limit + 1) in

@@ -22,7 +22,7 @@ use Rattle.list_text.specs.Reading.{easing_of}
 use Rattle.list_text.proofs.AnswerLemmas.{is_nothing}
 use Rattle.list_text.proofs.EasingLemmas.{exact}
 use Rattle.list_text.proofs.ListLemmas.{IsWhole, easing_whole, word_whole}
-use Rattle.list_text.proofs.OptionLemmas.{only_one}
+use Rattle.token_parts.proofs.KeywordLemmas.{only_one}
 use Rattle.list_text.proofs.TimeLemmas.{count_found, count_whole, delay_found, duration_found, time_whole, view_count}
 use Rattle.list_text.proofs.ViewLemmas.{as_it_is, plain}
 

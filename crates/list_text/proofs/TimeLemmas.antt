@@ -15,7 +15,8 @@ use Rattle.list_text.specs.Lists.{IsCountSpelling, IsDelaySpelling, IsDurationSp
 use Rattle.list_text.specs.ItemReading.{count_of, count_within, micros, micros_of, micros_within, time_of, time_with}
 use Rattle.list_text.specs.Reading.{Numbers, natural}
 use Rattle.list_text.proofs.ListLemmas.{IsWhole, Judges}
-use Rattle.list_text.proofs.OptionLemmas.{bound, mapped, only_one, passed}
+use Rattle.token_parts.proofs.KeywordLemmas.{only_one}
+use Rattle.list_text.proofs.OptionLemmas.{bound, mapped, passed}
 use Rattle.list_text.proofs.ViewLemmas.{Reads, at_limits, clamped_was, kept, natural_found, natural_was, not_negative_was, same_test, sign_kept}
 
 unit_was : (n u : List ℕ) (w : ℤ) (a b : Bool) → names u (codes "s") ≡ a → names u (codes "ms") ≡ b

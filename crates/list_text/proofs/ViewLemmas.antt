@@ -3,10 +3,12 @@ use Rattle.std.proofs.Common.{◌≡◌, ℕ, suc, ◌+◌, ◌<◌, ◌≤◌, 
 use Rattle.std.proofs.lemmas.Bool.{cases_lt}
 use Rattle.std.proofs.lemmas.Bool.Decides.{nat_tests}
 use Rattle.std.proofs.lemmas.Int.{ints}
+use Rattle.fix_num.specs.Decimal.{is_minus}
 use Rattle.fix_num.specs.Rounded.{StandsNear}
-use Rattle.list_text.specs.Numbers.{clamp, clamped, is_minus, nearest, not_negative}
+use Rattle.fix_num.proofs.SignLemmas.{size_of_signed}
+use Rattle.list_text.specs.Numbers.{clamp, clamped, nearest, not_negative}
 use Rattle.list_text.specs.Reading.{Numbers, natural}
-use Rattle.list_text.proofs.NumberLemmas.{clamp_large, clamp_small, near_found, near_was, size_of_signed}
+use Rattle.list_text.proofs.NumberLemmas.{clamp_large, clamp_small, near_found, near_was}
 use Rattle.list_text.proofs.OptionLemmas.{bound, mapped}
 
 -- what stands near is read as its view, which keeps what is within the limit

@@ -10,7 +10,7 @@ use Rattle.value_types.specs.declared.easing.Easing.{Easing}
 use Rattle.value_types.specs.declared.easing.Easing.TheVariants.{Linear, Cubic, Steps}
 use Rattle.value_types.specs.declared.easing.Jump.{Jump}
 use Rattle.value_types.specs.declared.easing.Jump.TheVariants.{Start, End, Both, Nowhere}
-use Rattle.list_text.specs.Numbers.{IsInteger}
+use Rattle.fix_num.specs.Integer.{IsIntegerText}
 
 -- the easings that are words
 abbrev pub easing_words : List (List ℕ × Easing)
@@ -37,7 +37,7 @@ jump_words =
 
 -- an integer that is enough steps for the jump
 pub record IsStepCount (number : List ℕ) (jump : Jump) (count : ℕ) : Type 0 where
-  pub value : IsInteger number (pos count)
+  pub value : IsIntegerText number (pos count)
   pub enough : fewest_steps jump ≤ count
 
 -- a number from 0 to 1, in thousandths

@@ -1,13 +1,8 @@
 -- Numbers of values (CSS Values 4, section 5), as large as they may be.
 use Rattle.std.specs.Prelude.{ℕ, ◌+◌, ◌==◌, ℤ, pos, negsuc, unsigned_abs, Bool, true, false, not, nat_le, if◌then◌else◌, List, IsTrue, Option, None, Some, option_map}
 use Rattle.std.specs.List.{list_all}
-use Rattle.fix_num.specs.Decimal.{decimal_of, signed}
-use Rattle.fix_num.specs.Rounded.{StandsNear, rounded_units}
-
--- the text is an integer: a number without a point
-pub record IsInteger (text : List ℕ) (v : ℤ) : Type 0 where
-  pub whole : IsTrue (list_all (λ b. not (b == 46)) text)
-  pub value : StandsNear 0 text v
+use Rattle.fix_num.specs.Decimal.{decimal_of, is_minus, signed_number}
+use Rattle.fix_num.specs.Rounded.{rounded_units}
 
 -- ---- the same as functions
 
@@ -15,14 +10,9 @@ pub record IsInteger (text : List ℕ) (v : ℤ) : Type 0 where
 unfoldable pub nearest : ℕ → ℕ → List ℕ → Option ℤ
 nearest places limit text = option_map (rounded_units places) (decimal_of text)
 
--- below 0
-abbrev pub is_minus : ℤ → Bool
-is_minus (pos n) = false
-is_minus (negsuc n) = true
-
 -- the number, where its size passes the limit with one above that as its size
 abbrev pub clamp : ℕ → ℤ → ℤ
-clamp limit v = (if nat_le (unsigned_abs v) limit then v else signed (is_minus v) (limit + 1))
+clamp limit v = (if nat_le (unsigned_abs v) limit then v else signed_number (is_minus v) (limit + 1))
 
 -- the nearest number, clamped
 unfoldable pub clamped : ℕ → ℕ → List ℕ → Option ℤ

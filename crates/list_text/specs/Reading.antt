@@ -1,6 +1,7 @@
 -- The spellings as functions of the parts. The way in which numbers are read is an argument: `nearest`, or `clamped`.
 use Rattle.std.specs.Prelude.{ℕ, ◌==◌, ℤ, pos, Bool, true, false, ◌&&◌, not, nat_le, if◌then◌else◌, unsigned_abs, List, [], ◌∷◌, codes, Option, None, Some}
 use Rattle.std.specs.List.{list_all}
+use Rattle.fix_num.specs.Integer.{has_no_point}
 use Rattle.token_parts.specs.Keywords.{names, look_up}
 use Rattle.token_parts.specs.Parts.{Piece, Ident, Function, Number, Comma, Close}
 use Rattle.value_types.specs.Timing.{fewest_steps}
@@ -56,7 +57,7 @@ jump_of parts = (if is_close parts then Some End else last_word parts >>= look_u
 
 unfoldable pub step_count : Numbers → List ℕ → Jump → Option Easing
 step_count num text jump =
-    (if list_all (λ b. not (b == 46)) text
+    (if has_no_point text
     then natural num 0 1000000 text >>= (λ n. if nat_le (fewest_steps jump) n then Some (Steps n jump) else None)
     else None)
 

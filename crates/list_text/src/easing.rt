@@ -9,7 +9,8 @@ ghost use Rattle.list_text.specs.ItemReading.{Gives, easing_read};
 ghost use Rattle.list_text.specs.Numbers.{clamped};
 ghost use Rattle.list_text.specs.Reading.{abscissa, comma_at, curve_of, easing_of, easing_within, function_of, is_close, jump_of, last_word, number_at, point_at, step_count, steps_of};
 
-use crate::number::{clamped, has_no_point, natural};
+use crate::number::{clamped, natural};
+use fix_num::has_no_point;
 use css_token::Token;
 use std::alloc::Global;
 use token_parts::{Part, ValueFault, is_keyword, look_up, parts};

@@ -1,7 +1,6 @@
 //! Numbers past their limits.
-ghost use Rattle.std.specs.Prelude.{◌≡◌, ◌+◌, ◌^◌, ◌==◌, ◌≤◌, pos, ◌≤ℤ◌, not, unsigned_abs, slice_index};
-ghost use Rattle.std.specs.List.{list_all};
-ghost use Rattle.fix_num.specs.Decimal.{signed};
+ghost use Rattle.std.specs.Prelude.{◌≡◌, ◌+◌, ◌^◌, ◌==◌, ◌≤◌, pos, ◌≤ℤ◌, unsigned_abs, slice_index};
+ghost use Rattle.fix_num.specs.Decimal.{signed_number};
 ghost use Rattle.list_text.specs.Numbers.{clamped, not_negative};
 ghost use Rattle.list_text.specs.Reading.{natural};
 
@@ -28,7 +27,7 @@ pub(crate) fn clamped(text: &[u8], places: u32, limit: i64) -> Option<i64>
 fn past(text: &[u8], limit: i64) -> i64
     requires low { pos 0 ≤ℤ limit }
     requires high { limit ≤ℤ pos (10 ^ 15) }
-    ensures { result ≡ signed (slice_index text.now 0 == 45) (unsigned_abs limit + 1) }
+    ensures { result ≡ signed_number (slice_index text.now 0 == 45) (unsigned_abs limit + 1) }
 {
     if !text.is_empty() && text[0] == b'-' {
         -limit - 1
@@ -55,11 +54,4 @@ fn not_negative(number: i64) -> Option<u64>
         return None;
     }
     Some(number as u64)
-}
-
-/// Whether the number has no point.
-pub(crate) fn has_no_point(text: &[u8]) -> bool
-    ensures { result ≡ list_all (λ b. not (b == 46)) text.now }
-{
-    text.iter().all(|byte| *byte != b'.')
 }

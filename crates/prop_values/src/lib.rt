@@ -10,7 +10,8 @@ pub use list_text::{
     easing_as_spelled, list_as_spelled, one_easing, one_list, read_easing, read_list,
 };
 pub use token_parts::ValueFault;
-pub use value_print::{absolute, print_value};
+pub use computed_value::absolute;
+pub use value_print::print_value;
 pub use value_text::{one_value, read_value, reading_is_exact, spelled_is_declared};
 pub use value_types::{
     AnimationLists, Count, Declared, Direction, Display, Easing, Fill, Frame, Frames, Items, Jump,

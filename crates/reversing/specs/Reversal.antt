@@ -1,7 +1,7 @@
 -- Faster reversing of interrupted transitions, after CSS Transitions Level 1, section 3.1.
 use Rattle.std.specs.Prelude.{◌^◌, ℤ, pos, ◌+ℤ◌, ◌-ℤ◌, ◌*ℤ◌, ◌≤ℤ◌, unsigned_abs, int_lt, if◌then◌else◌}
 use Rattle.std.specs.Int.{int_min, int_max}
-use Rattle.fix_num.specs.Rounding.{rounded}
+use Rattle.fix_num.specs.Rounding.{rounded_quotient}
 
 -- a reversing shortening factor: from 0 to 1, in billionths
 pub record IsFactor (f : ℤ) : Type 0 where
@@ -10,7 +10,7 @@ pub record IsFactor (f : ℤ) : Type 0 where
 
 -- the part of an output or of a time that the factor leaves
 unfoldable pub part_of : ℤ → ℤ → ℤ
-part_of factor v = rounded (factor *ℤ v) (pos (10 ^ 9))
+part_of factor v = rounded_quotient (factor *ℤ v) (pos (10 ^ 9))
 
 -- the factor of the reversing transition, from the factor of the one that it reverses and the output of that: the output
 -- times the factor, plus what the factor leaves of 1, without its sign and from 0 to 1

@@ -1,7 +1,7 @@
 -- The transcript of a script.
 use Rattle.std.specs.Prelude.{ℕ, ◌+◌, ℤ, Bool, true, false, ◌||◌, List, [], ◌∷◌, ◌++◌, flat_map, Option, Some, None, option_and_then, codes, decimal}
 use Rattle.std.specs.Option.{option_map_or}
-use Rattle.fix_num.specs.Print.{text_of}
+use Rattle.fix_num.specs.Print.{decimal_text}
 use Rattle.text_io.specs.Lines.{lines_of}
 use Rattle.value_print.specs.Printed.{shown}
 use Rattle.value_types.specs.declared.value.Value.{Value}
@@ -30,7 +30,7 @@ event_name n kind = codes "event " ++ decimal n ++ codes " transition" ++ kind_t
 
 -- `event N transitionKIND opacity ELAPSED`, the elapsed time in seconds
 unfoldable pub event_line : ℕ → Event → List ℕ
-event_line n e = event_name n e.kind ++ text_of 6 e.elapsed ++ codes "\n"
+event_line n e = event_name n e.kind ++ decimal_text 6 e.elapsed ++ codes "\n"
 
 -- `value N opacity V`
 unfoldable pub value_line : ℕ → Value → List ℕ

@@ -1,6 +1,6 @@
 //! The events of a running transition.
 ghost use Rattle.std.specs.Prelude.{◌≡◌, ◌++◌, ◌-ℤ◌, pos, codes, OnOk};
-ghost use Rattle.fix_num.specs.Print.{text_of};
+ghost use Rattle.fix_num.specs.Print.{decimal_text};
 ghost use Rattle.std.specs.Int.{int_max, int_min};
 ghost use Rattle.style_data.specs.Transitions.{IsTransition};
 ghost use Rattle.transcript_cli.specs.Tick.{elapsed_at_creation, elapsed_of, event_of, kinds_between};
@@ -94,7 +94,7 @@ fn push_name(piece: &mut Vec<u8>, n: u32, kind: EventKind) -> Result<(), AllocEr
 
 /// Appends `event N transitionKIND opacity ELAPSED`, the elapsed time given in microseconds.
 fn push_line(piece: &mut Vec<u8>, n: u32, kind: EventKind, elapsed: i64) -> Result<(), AllocError>
-    ensures { OnOk result (piece.new.items ≡ piece.old.items ++ (event_name n kind ++ text_of 6 elapsed ++ codes "\n")) }
+    ensures { OnOk result (piece.new.items ≡ piece.old.items ++ (event_name n kind ++ decimal_text 6 elapsed ++ codes "\n")) }
 {
     push_name(piece, n, kind)?;
     print_fix(piece, elapsed, 6)?;

@@ -1,3 +1,1 @@
-pub mod Absolute
-pub mod Keywords
 pub mod Printed

@@ -1,19 +1,21 @@
--- Computed values as text (CSSOM, "Serializing CSS Values"; CSS Color 4, section 15; CSS Values 3, section 8.1.4).
+-- Computed values as text (CSSOM, "Serializing CSS Values"; CSS Color 4, "Serializing <color> Values"; CSS Values 4,
+-- "Serialization" of mathematical functions).
 use Rattle.std.specs.Prelude.{ℕ, ℤ, pos, negsuc, unsigned_abs, ◌&&◌, if◌then◌else◌, List, [], ◌++◌, codes}
 use Rattle.std.specs.Ordering.{int_eq}
-use Rattle.fix_num.specs.Print.{text_of}
+use Rattle.fix_num.specs.Print.{decimal_text}
 use Rattle.fix_num.specs.declared.units.Fix.{Fix}
+use Rattle.fix_num.specs.declared.units.TheConstants.Fix.{ONE}
 use Rattle.value_types.specs.declared.value.Value.{Value}
 use Rattle.value_types.specs.declared.value.Value.TheVariants as value
-use Rattle.value_print.specs.Keywords.{keyword_of_display, keyword_of_visibility}
+use Rattle.value_types.specs.Keywords.{keyword_of_display, keyword_of_visibility}
 
 -- a number of millionths and its unit
 abbrev pub number_text : ℤ → List ℕ → List ℕ
-number_text n unit = text_of 6 n ++ unit
+number_text n unit = decimal_text 6 n ++ unit
 
 -- a whole number
 abbrev pub whole_text : ℤ → List ℕ
-whole_text n = text_of 0 n
+whole_text n = decimal_text 0 n
 
 -- the sign of a sum's second part
 abbrev pub sign_text : ℤ → List ℕ
@@ -44,7 +46,7 @@ channels_text r g b = whole_text (pos r) ++ codes ", " ++ whole_text (pos g) ++ 
 -- a colour, with its alpha where that isn't 1
 unfoldable pub color_text : ℕ → ℕ → ℕ → Fix → List ℕ
 color_text r g b a =
-    (if int_eq a.0 (pos 1000000) then codes "rgb(" ++ channels_text r g b ++ codes ")"
+    (if int_eq a.0 ONE.0 then codes "rgb(" ++ channels_text r g b ++ codes ")"
     else codes "rgba(" ++ channels_text r g b ++ codes ", " ++ number_text a.0 (codes ")"))
 
 -- the printed form of a computed value, of whatever property

@@ -1,13 +1,9 @@
-//! Computed values from declared ones, and as text. `absolute` makes a width of `2em` in an element of font
-//! size 10px a length of 20px, and `print_value` appends it as `20px`.
+//! Floor: values. Knows no element and no time: computed values as text.
+//!
+//! `print_value(&mut out, PropertyId::Width, v)` appends a length of 20px as `20px`.
 #![tactic(auto)]
 
-mod computed;
-mod keyword;
 mod pieces;
 mod print;
-#[cfg(test)]
-mod tests;
 
-pub use computed::absolute;
 pub use print::print_value;

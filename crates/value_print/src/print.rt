@@ -3,13 +3,10 @@ ghost use Rattle.std.specs.Prelude.{◌≡◌, ◌++◌, codes, pos, unsigned_ab
 ghost use Rattle.std.specs.Io.{StartsWith};
 ghost use Rattle.value_print.specs.Printed.{color_text, number_text, pair_text, shown, sign_text, size_text, sum_text, whole_text};
 
-use crate::keyword::{display_keyword, visibility_keyword};
 use crate::pieces::{push_channels, push_number, push_text};
 use fix_num::{Fix, print_fix};
 use std::alloc::AllocError;
 use value_types::{PropertyId, Value};
-
-const OPAQUE: i64 = 1_000_000;
 
 /// Appends the printed form of a computed value, which doesn't depend on the property (CSSOM, "Serializing
 /// CSS Values"). Where memory runs out nothing is appended.
@@ -44,8 +41,8 @@ fn push_value(out: &mut Vec<u8>, v: Value) -> Result<(), AllocError>
             y_pct,
         } => push_pair(out, x_px, x_pct, y_px, y_pct),
         Value::Absent => push_text(out, "none"),
-        Value::Visible(v) => push_text(out, visibility_keyword(v)),
-        Value::Display(d) => push_text(out, display_keyword(d)),
+        Value::Visible(v) => push_text(out, v.keyword()),
+        Value::Display(d) => push_text(out, d.keyword()),
     }
 }
 
@@ -124,7 +121,7 @@ fn push_color(out: &mut Vec<u8>, r: u8, g: u8, b: u8, a: Fix) -> Result<(), Allo
     ensures ok { OnOk result (out.new.items ≡ out.old.items ++ color_text r g b a) }
     ensures kept { StartsWith out.new.items out.old.items }
 {
-    if a.0 == OPAQUE {
+    if a.0 == Fix::ONE.0 {
         push_text(out, "rgb(")?;
         push_channels(out, r, g, b)?;
         return push_text(out, ")");

@@ -3,7 +3,7 @@ use Rattle.std.proofs.Common.{◌≡◌, ℕ, refl, ap, subst, sym, ◌∙◌, L
 use Rattle.fix_num.specs.declared.units.Fix.{Fix}
 use Rattle.token_parts.specs.Parts.{Piece, Ident, Function, Hash, Number, Comma, Close}
 use Rattle.token_parts.specs.declared.fault.ValueFault.{ValueFault}
-use Rattle.value_types.specs.declared.table.ValueRange.TheVariants.{ZeroToOne}
+use Rattle.value_types.specs.declared.range.ValueRange.TheVariants.{ZeroToOne}
 use Rattle.value_text.specs.declared.color.Rgba.{Rgba}
 use Rattle.value_text.specs.Colors.{IsAlphaText, IsColor, is_color_function}
 use Rattle.value_text.specs.Colors as colors

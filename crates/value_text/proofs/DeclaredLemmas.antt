@@ -1,18 +1,21 @@
 -- A value that is spelled within its limits is a declared value of the property.
-use Rattle.std.proofs.Common.{◌≡◌, ℕ, ◌^◌, ◌<◌, ◌≤◌, refl, arith, ap, subst, sym, List, ◌∷◌, [], cond, Bool, true, false, IsTrue, Option, Some, None, Result, Ok, Err, pos, unsigned_abs}
+use Rattle.std.proofs.Common.{◌≡◌, ℕ, ◌^◌, ◌<◌, ◌≤◌, nat_le, ◌&&◌, leb-true, length, get_or, refl, arith, ap, subst, sym, List, ◌∷◌, [], cond, Bool, true, false, IsTrue, Option, Some, None, Result, Ok, Err, pos, unsigned_abs}
 use Rattle.std.specs.Prelude.{IfOk, option_map}
 use Rattle.std.specs.List.{list_all}
 use Rattle.std.specs.Char.{is_ascii_hexdigit}
+use Rattle.std.proofs.lemmas.Bool.{and_parts}
 use Rattle.std.proofs.lemmas.Bool.Decides.{nat_tests}
 use Rattle.std.proofs.lemmas.Int.{ints}
-use Rattle.fix_num.specs.Rounding.{rounded}
+use Rattle.fix_num.specs.Rounding.{rounded_quotient}
 use Rattle.fix_num.specs.declared.units.Fix.{Fix}
 use Rattle.fix_num.proofs.RoundingLemmas.{rounded_size}
 use Rattle.token_parts.specs.Keywords.{look_up}
 use Rattle.token_parts.specs.Parts.{Piece}
+use Rattle.token_parts.proofs.KeywordLemmas.{row_passes}
 use Rattle.token_parts.specs.declared.fault.ValueFault.{ValueFault}
 use Rattle.value_types.specs.Table.{is_inherited, takes}
-use Rattle.value_types.specs.Validity.{IsAlpha, IsWithinLimit, IsDeclaredFor, IsDeclaredNumberFor, IsInRange, IsSizeFor, declared_range_of, kind_of}
+use Rattle.value_types.specs.Ranges.{IsInRange, IsWithinLimit}
+use Rattle.value_types.specs.Validity.{IsAlpha, IsDeclaredFor, IsDeclaredNumberFor, IsRgba, IsSizeFor, declared_range_of, kind_of}
 use Rattle.value_types.specs.declared.declared.Declared.{Declared}
 use Rattle.value_types.specs.declared.declared.Declared.TheVariants as declared
 use Rattle.value_types.specs.declared.declared.Size.{Size}
@@ -22,8 +25,8 @@ use Rattle.value_types.specs.declared.property.PropertyId.{PropertyId}
 use Rattle.value_types.specs.declared.property.PropertyId.TheVariants as property
 use Rattle.value_types.specs.declared.table.ValueKind.{ValueKind}
 use Rattle.value_types.specs.declared.table.ValueKind.TheVariants as kind
-use Rattle.value_types.specs.declared.table.ValueRange.{ValueRange}
-use Rattle.value_types.specs.declared.table.ValueRange.TheVariants as range
+use Rattle.value_types.specs.declared.range.ValueRange.{ValueRange}
+use Rattle.value_types.specs.declared.range.ValueRange.TheVariants as range
 use Rattle.value_text.specs.declared.cascade.Keyword.{Keyword}
 use Rattle.value_text.specs.declared.cascade.Keyword.TheVariants as cascade
 use Rattle.value_text.specs.declared.color.Rgba.{Rgba}
@@ -70,7 +73,7 @@ never : {A : Type 0} → false ≡ true → A
 never h = absurd (cc)
 
 -- a percent of opacity is no greater as a number
-hundredth_in_limits : (n : Fix) → unsigned_abs n.0 ≤ 10 ^ 12 → IsDeclaredNumberFor property.Opacity (record { 0 = rounded n.0 (pos 100) })
+hundredth_in_limits : (n : Fix) → IsWithinLimit n → IsDeclaredNumberFor property.Opacity (record { 0 = rounded_quotient n.0 (pos 100) })
 hundredth_in_limits n h = let size = rounded_size n.0 100 (omega arith) in record { limit = omega (arith, size); in_range = tt }
 
 percent_size : (p : PropertyId) (s : Size) → s.unit ≡ unit.Percent → IsTrue (takes p kind.Percent) → IsDeclaredNumberFor p s.amount → IsDeclaredFor p (declared_percent p s)
@@ -109,15 +112,37 @@ part_in_limits : (p : PropertyId) (part : Piece) (s : Size) → IsTrue (takes p 
 part_in_limits p part s t (spelling.length h) = record { limit = length_in_all part s h; in_range = pair_in_range p s.amount t }
 part_in_limits p part s t (spelling.percent h) = record { limit = percent_in_all part s h; in_range = pair_in_range p s.amount t }
 
--- ---- the alpha of a colour
+-- ---- colours
+
+-- the colour's channels and its alpha are in their ranges
+abbrev pub IsInside : Rgba → Type 0
+IsInside c = IsRgba c.r c.g c.b c.a
 
 alpha_of_one : (n : ℕ) → n ≤ 1000000 → IsAlpha (record { 0 = pos n })
 alpha_of_one n h = (omega (arith, ints), omega (arith, ints))
 
-named_alpha : (b : Bool) (o : Option (ℕ × ℕ × ℕ)) (c : Rgba) → cond b (Some (rgba 0 0 0 (pos 0))) (option_map opaque o) ≡ Some c → IsAlpha c.a
-named_alpha true o c h = let same : rgba 0 0 0 (pos 0) ≡ c = cc in subst (λ (d : Rgba). IsAlpha d.a) same (alpha_of_one 0 (omega arith))
-named_alpha false (Some x) c h = let same : opaque x ≡ c = cc in subst (λ (d : Rgba). IsAlpha d.a) same (alpha_of_one 1000000 (omega arith))
-named_alpha false None c h = absurd (cc)
+-- named channels
+are_channels : ℕ × ℕ × ℕ → Bool
+are_channels c = nat_le c.0 255 && nat_le c.1 255 && nat_le c.2 255
+
+named_channels : (word : List ℕ) (c : ℕ × ℕ × ℕ) → look_up color_words word ≡ Some c → are_channels c ≡ true
+unfolding are_channels
+named_channels word c h = row_passes are_channels color_words word c refl h
+
+opaque_inside : (c : ℕ × ℕ × ℕ) → are_channels c ≡ true → IsInside (opaque c)
+unfolding are_channels
+opaque_inside c h =
+    let both = and_parts (nat_le c.0 255 && nat_le c.1 255) _ h in
+    let first = and_parts (nat_le c.0 255) _ both.0 in
+    record { red = leb-true c.0 255 first.0; green = leb-true c.1 255 first.1; blue = leb-true c.2 255 both.1; alpha = alpha_of_one 1000000 (omega arith) }
+
+named_inside : (word : List ℕ) (b : Bool) (o : Option (ℕ × ℕ × ℕ)) (c : Rgba) → look_up color_words word ≡ o
+    → cond b (Some (rgba 0 0 0 (pos 0))) (option_map opaque o) ≡ Some c → IsInside c
+named_inside word true o c e h =
+    let same : rgba 0 0 0 (pos 0) ≡ c = cc in
+    subst IsInside same (record { red = omega arith; green = omega arith; blue = omega arith; alpha = alpha_of_one 0 (omega arith) })
+named_inside word false (Some x) c e h = let same : opaque x ≡ c = cc in subst IsInside same (opaque_inside x (named_channels word x e))
+named_inside word false None c e h = absurd (cc)
 
 digit_below : (c : ℕ) → IsTrue (is_ascii_hexdigit c) → digit_of c < 16
 digit_below c h = grind (arith, nat_tests)
@@ -126,37 +151,63 @@ pair_below : (c d : ℕ) → IsTrue (is_ascii_hexdigit c) → IsTrue (is_ascii_h
 pair_below c d h k = let high = digit_below c h in let low = digit_below d k in omega (arith, high, low)
 
 part_of_255 : (h : ℕ) → h ≤ 255 → IsAlpha (record { 0 = alpha_of h })
-unfolding rounded
+unfolding rounded_quotient
 part_of_255 h small = (omega (arith, ints), omega (arith, ints))
 
-hex_digits_alpha : (text : List ℕ) (c : Rgba) → IsTrue (list_all is_ascii_hexdigit text) → hex_digits text ≡ Some c → IsAlpha c.a
-hex_digits_alpha (r ∷ g ∷ b ∷ []) c all h =
-    let same : rgba (double_of r) (double_of g) (double_of b) (pos 1000000) ≡ c = cc in
-    subst (λ (d : Rgba). IsAlpha d.a) same (alpha_of_one 1000000 (omega arith))
-hex_digits_alpha (r ∷ g ∷ b ∷ a ∷ []) c all h =
-    let same : rgba (double_of r) (double_of g) (double_of b) (alpha_of (double_of a)) ≡ c = cc in
-    let digit = hex_at (r ∷ g ∷ b ∷ a ∷ []) 3 all (omega arith) in
-    subst (λ (d : Rgba). IsAlpha d.a) same (part_of_255 (double_of a) (pair_below a a digit digit))
-hex_digits_alpha (r ∷ r2 ∷ g ∷ g2 ∷ b ∷ b2 ∷ []) c all h =
-    let same : rgba (pair_of r r2) (pair_of g g2) (pair_of b b2) (pos 1000000) ≡ c = cc in
-    subst (λ (d : Rgba). IsAlpha d.a) same (alpha_of_one 1000000 (omega arith))
-hex_digits_alpha (r ∷ r2 ∷ g ∷ g2 ∷ b ∷ b2 ∷ a ∷ a2 ∷ []) c all h =
-    let same : rgba (pair_of r r2) (pair_of g g2) (pair_of b b2) (alpha_of (pair_of a a2)) ≡ c = cc in
-    let first = hex_at (r ∷ r2 ∷ g ∷ g2 ∷ b ∷ b2 ∷ a ∷ a2 ∷ []) 6 all (omega arith) in
-    let second = hex_at (r ∷ r2 ∷ g ∷ g2 ∷ b ∷ b2 ∷ a ∷ a2 ∷ []) 7 all (omega arith) in
-    subst (λ (d : Rgba). IsAlpha d.a) same (part_of_255 (pair_of a a2) (pair_below a a2 first second))
-hex_digits_alpha text c all h = absurd (cc)
+-- the pair of digits at two places
+pair_at : (text : List ℕ) (i j : ℕ) → IsTrue (list_all is_ascii_hexdigit text) → i < length text → j < length text → pair_of (get_or text i 0) (get_or text j 0) ≤ 255
+pair_at text i j all h k = pair_below (get_or text i 0) (get_or text j 0) (hex_at text i all h) (hex_at text j all k)
 
-hex_chosen : (text : List ℕ) (c : Rgba) (b : Bool) → list_all is_ascii_hexdigit text ≡ b → cond b (hex_digits text) None ≡ Some c → IsAlpha c.a
-hex_chosen text c true all h = hex_digits_alpha text c all h
+hex_digits_inside : (text : List ℕ) (c : Rgba) → IsTrue (list_all is_ascii_hexdigit text) → hex_digits text ≡ Some c → IsInside c
+hex_digits_inside (r ∷ g ∷ b ∷ []) c all h =
+    let same : rgba (double_of r) (double_of g) (double_of b) (pos 1000000) ≡ c = cc in
+    let at = pair_at (r ∷ g ∷ b ∷ []) in
+    subst IsInside same (record {
+      red = at 0 0 all (omega arith) (omega arith);
+      green = at 1 1 all (omega arith) (omega arith);
+      blue = at 2 2 all (omega arith) (omega arith);
+      alpha = alpha_of_one 1000000 (omega arith);
+    })
+hex_digits_inside (r ∷ g ∷ b ∷ a ∷ []) c all h =
+    let same : rgba (double_of r) (double_of g) (double_of b) (alpha_of (double_of a)) ≡ c = cc in
+    let at = pair_at (r ∷ g ∷ b ∷ a ∷ []) in
+    subst IsInside same (record {
+      red = at 0 0 all (omega arith) (omega arith);
+      green = at 1 1 all (omega arith) (omega arith);
+      blue = at 2 2 all (omega arith) (omega arith);
+      alpha = part_of_255 (double_of a) (at 3 3 all (omega arith) (omega arith));
+    })
+hex_digits_inside (r ∷ r2 ∷ g ∷ g2 ∷ b ∷ b2 ∷ []) c all h =
+    let same : rgba (pair_of r r2) (pair_of g g2) (pair_of b b2) (pos 1000000) ≡ c = cc in
+    let at = pair_at (r ∷ r2 ∷ g ∷ g2 ∷ b ∷ b2 ∷ []) in
+    subst IsInside same (record {
+      red = at 0 1 all (omega arith) (omega arith);
+      green = at 2 3 all (omega arith) (omega arith);
+      blue = at 4 5 all (omega arith) (omega arith);
+      alpha = alpha_of_one 1000000 (omega arith);
+    })
+hex_digits_inside (r ∷ r2 ∷ g ∷ g2 ∷ b ∷ b2 ∷ a ∷ a2 ∷ []) c all h =
+    let same : rgba (pair_of r r2) (pair_of g g2) (pair_of b b2) (alpha_of (pair_of a a2)) ≡ c = cc in
+    let at = pair_at (r ∷ r2 ∷ g ∷ g2 ∷ b ∷ b2 ∷ a ∷ a2 ∷ []) in
+    subst IsInside same (record {
+      red = at 0 1 all (omega arith) (omega arith);
+      green = at 2 3 all (omega arith) (omega arith);
+      blue = at 4 5 all (omega arith) (omega arith);
+      alpha = part_of_255 (pair_of a a2) (at 6 7 all (omega arith) (omega arith));
+    })
+hex_digits_inside text c all h = absurd (cc)
+
+hex_chosen : (text : List ℕ) (c : Rgba) (b : Bool) → list_all is_ascii_hexdigit text ≡ b → cond b (hex_digits text) None ≡ Some c → IsInside c
+hex_chosen text c true all h = hex_digits_inside text c all h
 hex_chosen text c false all h = absurd (cc)
 
-color_alpha : (parts : List Piece) (c : Rgba) → IsColor parts c → IsAlpha c.a
+color_inside : (parts : List Piece) (c : Rgba) → IsColor parts c → IsInside c
 unfolding color_named hex_color
-color_alpha parts c (colors.named word d e) = named_alpha _ (look_up color_words word) d e
-color_alpha parts c (colors.hexadecimal digits d e) = hex_chosen digits d (list_all is_ascii_hexdigit digits) refl e
-color_alpha parts c (colors.channels name r g b d f x y z a) = subst IsAlpha (sym a) (alpha_of_one 1000000 (omega arith))
-color_alpha parts c (colors.channels_and_alpha name r g b a d f x y z h) = h.in_range
+color_inside parts c (colors.named word d e) = named_inside word _ (look_up color_words word) d refl e
+color_inside parts c (colors.hexadecimal digits d e) = hex_chosen digits d (list_all is_ascii_hexdigit digits) refl e
+color_inside parts c (colors.channels name r g b d f x y z a) =
+    record { red = x.high; green = y.high; blue = z.high; alpha = subst IsAlpha (sym a) (alpha_of_one 1000000 (omega arith)) }
+color_inside parts c (colors.channels_and_alpha name r g b a d f x y z h) = record { red = x.high; green = y.high; blue = z.high; alpha = h.in_range }
 
 -- ---- declared values
 
@@ -167,7 +218,7 @@ value_declared p k parts d t (spelling.percent part s e h is) = subst (IsDeclare
 value_declared p k parts d t (spelling.auto word h) = t
 value_declared p k parts d t (spelling.normal word h) = normal_size p t
 value_declared p k parts d t (spelling.integer text i h) = (t, h.limit refl)
-value_declared p k parts d t (spelling.color ps c h) = (t, color_alpha ps c h)
+value_declared p k parts d t (spelling.color ps c h) = (t, color_inside ps c h)
 value_declared p k parts d t (spelling.angle text word n u h) = (t, in_limits p text n h)
 value_declared p k parts d t (spelling.one_part part x h) = (t, part_in_limits p part x t h, none_in_limits p)
 value_declared p k parts d t (spelling.two_parts first second x y h j) = (t, part_in_limits p first x t h, part_in_limits p second y t j)

@@ -4,35 +4,31 @@ use Rattle.std.specs.Prelude.{if◌then◌else◌}
 use Rattle.fix_num.specs.Decimal.{Stands, reading_of}
 use Rattle.fix_num.specs.declared.decimal.NumFault.{NumFault}
 use Rattle.fix_num.specs.declared.decimal.NumFault.TheVariants.{Syntax, TooFine, TooLarge}
+use Rattle.fix_num.specs.Integer.{has_no_point}
+use Rattle.fix_num.proofs.IntegerLemmas.{one_stands}
+use Rattle.fix_num.specs.declared.limits.TheConstants.{MAX_INTEGER}
 use Rattle.fix_num.proofs.ReadingLemmas.{number_from, number_told, too_large_told, within_number}
 use Rattle.token_parts.specs.declared.fault.ValueFault.TheVariants.{Unsupported}
 use Rattle.value_text.specs.NumberReading.{channel_of, integer_from, integer_in, natural_from}
-use Rattle.value_text.specs.Numbers.{IsChannel, IsHeldInteger, has_no_point}
+use Rattle.value_text.specs.Numbers.{IsChannel, IsHeldInteger}
 use Rattle.value_text.proofs.Readings.{IsReading, nothing}
 
-one_stands : (text : List ℕ) (v w : ℤ) → Stands 0 text v → Stands 0 text w → v ≡ w
-one_stands text v w a b =
-    let limit : ℕ = unsigned_abs v + unsigned_abs w in
-    let first = number_from 0 limit text v (a, omega arith) in
-    let second = number_from 0 limit text w (b, omega arith) in
-    cc
-
 one_integer : (text : List ℕ) (i j : ℤ) → IsHeldInteger false text i → IsHeldInteger false text j → i ≡ j
-one_integer text i j h k = one_stands text i j h.value.value k.value.value
+one_integer text i j h k = one_stands 0 text i j h.value.value k.value.value
 
 -- what stands for a number is read, or passes the limit
 within_is_no_fault : (b : Bool) (v : ℤ) (f : NumFault) → (TooLarge ≡ f → ⊥) → cond b (Ok v) (Err TooLarge) ≡ Err f → ⊥
 within_is_no_fault true v f h e = cc
 within_is_no_fault false v f h e = let same : TooLarge ≡ f = cc in h same
 
-no_other_fault : (text : List ℕ) (v : ℤ) (f : NumFault) → (TooLarge ≡ f → ⊥) → Stands 0 text v → reading_of 0 2147483647 text ≡ Err f → ⊥
+no_other_fault : (text : List ℕ) (v : ℤ) (f : NumFault) → (TooLarge ≡ f → ⊥) → Stands 0 text v → reading_of 0 MAX_INTEGER text ≡ Err f → ⊥
 no_other_fault text v f h stands e =
-    within_is_no_fault (nat_le (unsigned_abs v) 2147483647) v f h (sym (within_number 0 2147483647 text v stands) ∙ e)
+    within_is_no_fault (nat_le (unsigned_abs v) MAX_INTEGER) v f h (sym (within_number 0 MAX_INTEGER text v stands) ∙ e)
 
-integer_at : (text : List ℕ) (res : Result ℤ NumFault) → has_no_point text ≡ true → reading_of 0 2147483647 text ≡ res
+integer_at : (text : List ℕ) (res : Result ℤ NumFault) → has_no_point text ≡ true → reading_of 0 MAX_INTEGER text ≡ res
     → IsReading (λ held i. IsHeldInteger held text i) (integer_from res)
 integer_at text (Ok v) digits e = record {
-  given = λ i h. ap Ok (one_stands text v i told.0 h.value.value);
+  given = λ i h. ap Ok (one_stands 0 text v i told.0 h.value.value);
   found = λ i d. let same : v ≡ i = cc in subst (λ n. IsHeldInteger true text n) same (record { value = record { digits = digits; value = told.0 }; limit = λ held. told.1 });
   bound = λ d. absurd (cc);
   some = λ i h d. cc;
@@ -41,10 +37,10 @@ integer_at text (Ok v) digits e = record {
   no_items = λ d. cc;
   no_memory = λ d. cc;
 } where
-  told : Stands 0 text v × (unsigned_abs v ≤ 2147483647)
-  told = number_told 0 2147483647 text v e
+  told : Stands 0 text v × (unsigned_abs v ≤ MAX_INTEGER)
+  told = number_told 0 MAX_INTEGER text v e
 integer_at text (Err TooLarge) digits e = record {
-  given = λ i h. let small = h.limit refl in let same = one_stands text told.0 i told.1 h.value.value in let size = ap unsigned_abs same in let far = told.2 in absurd (omega arith);
+  given = λ i h. let small = h.limit refl in let same = one_stands 0 text told.0 i told.1 h.value.value in let size = ap unsigned_abs same in let far = told.2 in absurd (omega arith);
   found = λ i d. absurd (cc);
   bound = λ d. (told.0, record { value = record { digits = digits; value = told.1 }; limit = λ held. absurd (cc) });
   some = λ i h d. cc;
@@ -53,14 +49,14 @@ integer_at text (Err TooLarge) digits e = record {
   no_items = λ d. cc;
   no_memory = λ d. cc;
 } where
-  told : (v : ℤ) × Stands 0 text v × (2147483647 < unsigned_abs v)
-  told = too_large_told 0 2147483647 text e
+  told : (v : ℤ) × Stands 0 text v × (MAX_INTEGER < unsigned_abs v)
+  told = too_large_told 0 MAX_INTEGER text e
 integer_at text (Err Syntax) digits e = nothing _ (λ held i h. no_other_fault text i Syntax (λ d. cc) h.value.value e)
 integer_at text (Err TooFine) digits e = nothing _ (λ held i h. no_other_fault text i TooFine (λ d. cc) h.value.value e)
 
 integer_chosen : (text : List ℕ) (b : Bool) → has_no_point text ≡ b
-    → IsReading (λ held i. IsHeldInteger held text i) (if b then integer_from (reading_of 0 2147483647 text) else Err Unsupported)
-integer_chosen text true e = integer_at text (reading_of 0 2147483647 text) e refl
+    → IsReading (λ held i. IsHeldInteger held text i) (if b then integer_from (reading_of 0 MAX_INTEGER text) else Err Unsupported)
+integer_chosen text true e = integer_at text (reading_of 0 MAX_INTEGER text) e refl
 integer_chosen text false e = nothing _ (λ held i h. let digits : has_no_point text ≡ true = h.value.digits in cc)
 
 pub integer_is : (text : List ℕ) → IsReading (λ held i. IsHeldInteger held text i) (integer_in text)

@@ -5,6 +5,7 @@ use Rattle.fix_num.specs.declared.units.Fix.{Fix}
 use Rattle.token_parts.specs.Keywords.{look_up, names}
 use Rattle.token_parts.specs.Parts.{Piece, Ident, Function, Hash, Number, Percent, Dimension, Comma, Close, Other}
 use Rattle.token_parts.specs.declared.fault.ValueFault.TheVariants.{Unsupported}
+use Rattle.value_types.specs.Keywords.{display_named, visibility_named}
 use Rattle.value_types.specs.Validity.{declared_range_of}
 use Rattle.value_types.specs.declared.declared.Declared.{Declared}
 use Rattle.value_types.specs.declared.declared.Declared.TheVariants as declared
@@ -12,13 +13,13 @@ use Rattle.value_types.specs.declared.declared.Size.{Size}
 use Rattle.value_types.specs.declared.property.PropertyId.{PropertyId}
 use Rattle.value_types.specs.declared.table.ValueKind.{ValueKind}
 use Rattle.value_types.specs.declared.table.ValueKind.TheVariants as kind
-use Rattle.value_types.specs.declared.table.ValueRange.TheVariants.{All}
+use Rattle.value_types.specs.declared.range.ValueRange.TheVariants.{All}
 use Rattle.value_text.specs.ColorReading.{color_of}
 use Rattle.value_text.specs.NumberReading.{number_in}
 use Rattle.value_text.specs.Numbers.{IsHeldInteger, IsNumber}
 use Rattle.value_text.specs.Reading.{angle_in, kind_in, length_in, mapped, part_in}
 use Rattle.value_text.specs.Sizes.{IsLength, IsPercent, zero_pixels}
-use Rattle.value_text.specs.Spelling.{IsPart, IsSpelling, colored, declared_percent, display_words, visibility_words}
+use Rattle.value_text.specs.Spelling.{IsPart, IsSpelling, colored, declared_percent}
 use Rattle.value_text.specs.Spelling as spelling
 use Rattle.value_text.proofs.ColorLemmas.{color_found, color_was}
 use Rattle.value_text.proofs.IntegerLemmas.{integer_is}
@@ -160,22 +161,22 @@ absent_kind p (Ident word ∷ []) = tested_is _ (names word (codes "none")) decl
 absent_kind p parts = nothing _ (λ held d h. elim h [ ])
 
 visibility_was : (held : Bool) (p : PropertyId) (word : List ℕ) (d : Declared) → IsSpelling held p kind.Visibility (Ident word ∷ []) d
-    → option_map declared.Visible (look_up visibility_words word) ≡ Some d
+    → option_map declared.Visible (visibility_named word) ≡ Some d
 visibility_was held p word d (spelling.visibility w v h) = ap (option_map declared.Visible) h
 
 visibility_kind : (p : PropertyId) (parts : List Piece) → IsReading (Kind p kind.Visibility parts) (kind_in p kind.Visibility parts)
-visibility_kind p (Ident word ∷ []) = supported_is _ (option_map declared.Visible (look_up visibility_words word)) (λ held d h. visibility_was held p word d h)
-    (λ held d h. let v = option_mapped declared.Visible (look_up visibility_words word) d h in
+visibility_kind p (Ident word ∷ []) = supported_is _ (option_map declared.Visible (visibility_named word)) (λ held d h. visibility_was held p word d h)
+    (λ held d h. let v = option_mapped declared.Visible (visibility_named word) d h in
     subst (λ e. IsSpelling held p kind.Visibility (Ident word ∷ []) e) v.2 (spelling.visibility word v.0 v.1))
 visibility_kind p parts = nothing _ (λ held d h. elim h [ ])
 
 display_was : (held : Bool) (p : PropertyId) (word : List ℕ) (d : Declared) → IsSpelling held p kind.Display (Ident word ∷ []) d
-    → option_map declared.Display (look_up display_words word) ≡ Some d
+    → option_map declared.Display (display_named word) ≡ Some d
 display_was held p word d (spelling.display w v h) = ap (option_map declared.Display) h
 
 display_kind : (p : PropertyId) (parts : List Piece) → IsReading (Kind p kind.Display parts) (kind_in p kind.Display parts)
-display_kind p (Ident word ∷ []) = supported_is _ (option_map declared.Display (look_up display_words word)) (λ held d h. display_was held p word d h)
-    (λ held d h. let v = option_mapped declared.Display (look_up display_words word) d h in
+display_kind p (Ident word ∷ []) = supported_is _ (option_map declared.Display (display_named word)) (λ held d h. display_was held p word d h)
+    (λ held d h. let v = option_mapped declared.Display (display_named word) d h in
     subst (λ e. IsSpelling held p kind.Display (Ident word ∷ []) e) v.2 (spelling.display word v.0 v.1))
 display_kind p parts = nothing _ (λ held d h. elim h [ ])
 

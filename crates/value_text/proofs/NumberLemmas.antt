@@ -4,76 +4,33 @@ use Rattle.std.specs.Prelude.{if◌then◌else◌, not, neg_ℤ, ◌≤ℤ◌, s
 use Rattle.std.proofs.lemmas.Bool.Decides.{nat_tests}
 use Rattle.std.proofs.lemmas.Int.{ints}
 use Rattle.std.proofs.Math.Nat.{mul-le-mul_right}
-use Rattle.fix_num.specs.Decimal.{Decimal, decimal_of, signed, unsigned_of}
+use Rattle.fix_num.specs.Decimal.{is_minus}
 use Rattle.fix_num.specs.Rounded.{StandsNear, rounded_reading_of}
-use Rattle.fix_num.specs.Rounding.{IsNearest}
 use Rattle.fix_num.specs.declared.decimal.NumFault.{NumFault}
 use Rattle.fix_num.specs.declared.decimal.NumFault.TheVariants.{Syntax, TooFine, TooLarge}
+use Rattle.fix_num.specs.declared.limits.TheConstants.{MAX_NUMBER}
 use Rattle.fix_num.specs.declared.units.Fix.{Fix}
-use Rattle.fix_num.proofs.PrintLemmas.{power_positive}
+use Rattle.fix_num.proofs.IntegerLemmas.{one_near}
 use Rattle.fix_num.proofs.RoundedReadingLemmas.{far_told, near_from, near_told, never_fine, none_told}
-use Rattle.fix_num.proofs.SpellingLemmas.{found as decimal_found}
+use Rattle.fix_num.proofs.SignLemmas.{sign_of}
 use Rattle.token_parts.specs.declared.fault.ValueFault.TheVariants.{Unsupported, Bound}
-use Rattle.value_types.specs.Validity.{IsInRange}
-use Rattle.value_types.specs.declared.table.ValueRange.{ValueRange}
-use Rattle.value_types.specs.declared.table.ValueRange.TheVariants as range
-use Rattle.value_text.specs.NumberReading.{begins_minus, far_in_range, is_in_range, integer_from, integer_in, number_in}
+use Rattle.value_types.specs.Ranges.{IsInRange, is_in_range}
+use Rattle.value_types.specs.declared.range.ValueRange.{ValueRange}
+use Rattle.value_types.specs.declared.range.ValueRange.TheVariants as range
+use Rattle.value_text.specs.NumberReading.{begins_minus, far_in_range, integer_from, integer_in, number_in}
 use Rattle.value_text.specs.NumberReading as reading
 use Rattle.value_text.specs.Numbers.{IsNumber}
 use Rattle.value_text.proofs.Readings.{IsReading, nothing}
 
 -- ---- the sign of a number past the limit
 
--- below 0
-abbrev pub is_minus : ℤ → Bool
-is_minus (pos n) = false
-is_minus (negsuc n) = true
-
-not_minus : (m b : ℕ) (v : ℤ) → 0 < b → IsNearest (pos m) (pos b) v → is_minus v ≡ false
-not_minus m b (pos n) some h = refl
-not_minus m b (negsuc n) some h = absurd (omega (arith, ints, h.not_below))
-
-is_minus_of : (m b : ℕ) (v : ℤ) → 0 < b → 0 < unsigned_abs v → IsNearest (neg_ℤ (pos m)) (pos b) v → is_minus v ≡ true
-is_minus_of m b (pos n) some size h =
-    let more = mul-le-mul_right {m = 1} {n = n} b (omega (arith, ints)) in
-    absurd (omega (arith, ints, h.not_above, more))
-is_minus_of m b (negsuc n) some size h = refl
-
-minus_at : (negative : Bool) (m b : ℕ) (v : ℤ) → 0 < b → 0 < unsigned_abs v → IsNearest (signed negative m) (pos b) v → is_minus v ≡ negative
-minus_at true m b v some size h = is_minus_of m b v some size h
-minus_at false m b v some size h = not_minus m b v some h
-
-chosen_sign : (a b c negative : Bool) (x y d : Decimal) → x.negative ≡ negative → y.negative ≡ negative
-    → cond a (cond b None (Some x)) (cond c (Some y) None) ≡ Some d → d.negative ≡ negative
-chosen_sign true true c n x y d p q h = absurd (cc)
-chosen_sign true false c n x y d p q h = let same : x ≡ d = cc in cc
-chosen_sign false b true n x y d p q h = let same : y ≡ d = cc in cc
-chosen_sign false b false n x y d p q h = absurd (cc)
-
-unsigned_sign : (negative : Bool) (text : List ℕ) (d : Decimal) → unsigned_of negative text ≡ Some d → d.negative ≡ negative
-unfolding unsigned_of
-unsigned_sign negative text d h = chosen_sign _ _ _ negative _ _ d refl refl h
-
-sign_chosen : (a b c : Bool) (o p q : Option Decimal) (d : Decimal) → (o ≡ Some d → d.negative ≡ true) → (p ≡ Some d → d.negative ≡ false)
-    → (q ≡ Some d → d.negative ≡ false) → cond a None (cond b o (cond c p q)) ≡ Some d → d.negative ≡ b
-sign_chosen true b c o p q d f g h e = absurd (cc)
-sign_chosen false true c o p q d f g h e = f e
-sign_chosen false false true o p q d f g h e = g e
-sign_chosen false false false o p q d f g h e = h e
-
-decimal_sign : (text : List ℕ) (d : Decimal) → decimal_of text ≡ Some d → d.negative ≡ (slice_index text 0 == 45)
-unfolding decimal_of
-decimal_sign text d h = sign_chosen _ (slice_index text 0 == 45) _ _ _ _ d (unsigned_sign true (drop 1 text) d) (unsigned_sign false (drop 1 text) d) (unsigned_sign false text d) h
-
+-- the test of the first byte, of which an empty text has none
 first_is_minus : (text : List ℕ) → begins_minus text ≡ (slice_index text 0 == 45)
 first_is_minus [] = refl
 first_is_minus (c ∷ cs) = let e : nat_lt 0 (suc (length cs)) ≡ true = grind (arith, nat_tests) in rw e refl
 
-sign_of : (text : List ℕ) (v : ℤ) → StandsNear 6 text v → 0 < unsigned_abs v → is_minus v ≡ begins_minus text
-sign_of text v near size =
-    let some = power_positive (length near.0.fraction) in
-    minus_at near.0.negative _ (10 ^ length near.0.fraction) v some size near.2
-    ∙ decimal_sign text near.0 (decimal_found text near.0 near.1) ∙ sym (first_is_minus text)
+text_sign : (text : List ℕ) (v : ℤ) → StandsNear 6 text v → 0 < unsigned_abs v → is_minus v ≡ begins_minus text
+text_sign text v near size = sign_of 6 text v near size ∙ sym (first_is_minus text)
 
 -- ---- ranges
 
@@ -97,7 +54,7 @@ in_range_told range.ZeroToOne (pos n) h = let small : n ≤ 1000000 = grind (ari
 in_range_told range.ZeroToOne (negsuc n) h = absurd (cc)
 in_range_told range.Nothing v h = tt
 
-far_test : (r : ValueRange) (text : List ℕ) (n : Fix) → is_minus n.0 ≡ begins_minus text → 10 ^ 12 < unsigned_abs n.0 → IsInRange r n → far_in_range r text ≡ true
+far_test : (r : ValueRange) (text : List ℕ) (n : Fix) → is_minus n.0 ≡ begins_minus text → MAX_NUMBER < unsigned_abs n.0 → IsInRange r n → far_in_range r text ≡ true
 far_test range.All text n sign far h = refl
 far_test range.NotNegative text n sign far h = ap not (sym sign) ∙ at n.0 h where
   at : (v : ℤ) → pos 0 ≤ℤ v → not (is_minus v) ≡ true
@@ -117,25 +74,18 @@ far_in_range_told range.Nothing text v sign h = tt
 
 -- ---- numbers
 
-one_near : (text : List ℕ) (v w : ℤ) → StandsNear 6 text v → StandsNear 6 text w → v ≡ w
-one_near text v w a b =
-    let limit : ℕ = unsigned_abs v + unsigned_abs w in
-    let first = near_from 6 limit text v (a, omega arith) in
-    let second = near_from 6 limit text w (b, omega arith) in
-    cc
-
 fix_of : ℤ → Fix
 fix_of v = record { 0 = v }
 
 one_number : (r : ValueRange) (text : List ℕ) (a b : Fix) → IsNumber false r text a → IsNumber false r text b → a ≡ b
 unfolding fix_of
-one_number r text a b h k = ap fix_of (one_near text a.0 b.0 h.near k.near)
+one_number r text a b h k = ap fix_of (one_near 6 text a.0 b.0 h.near k.near)
 
-number_given : (r : ValueRange) (text : List ℕ) (v : ℤ) → StandsNear 6 text v → unsigned_abs v ≤ 10 ^ 12 → (b : Bool) → is_in_range r v ≡ b
+number_given : (r : ValueRange) (text : List ℕ) (v : ℤ) → StandsNear 6 text v → unsigned_abs v ≤ MAX_NUMBER → (b : Bool) → is_in_range r v ≡ b
     → IsReading (λ held n. IsNumber held r text n) (if b then Ok (record { 0 = v }) else Err Unsupported)
 unfolding fix_of
 number_given r text v near small true test = record {
-  given = λ a h. ap (λ z. Ok (fix_of z)) (one_near text v a.0 near h.near);
+  given = λ a h. ap (λ z. Ok (fix_of z)) (one_near 6 text v a.0 near h.near);
   found = λ a e. let same : fix_of v ≡ a = cc in
       subst (λ n. IsNumber true r text n) same (record { near = near; in_range = in_range_told r v test; limit = λ held. small });
   bound = λ e. absurd (cc);
@@ -147,15 +97,15 @@ number_given r text v near small true test = record {
 }
 number_given r text v near small false test = nothing _ (λ held a h.
     let is = in_range_test r a h.in_range in
-    let same = one_near text v a.0 near h.near in
+    let same = one_near 6 text v a.0 near h.near in
     cc)
 
-number_far : (r : ValueRange) (text : List ℕ) (v : ℤ) → StandsNear 6 text v → 10 ^ 12 < unsigned_abs v → (b : Bool) → far_in_range r text ≡ b
+number_far : (r : ValueRange) (text : List ℕ) (v : ℤ) → StandsNear 6 text v → MAX_NUMBER < unsigned_abs v → (b : Bool) → far_in_range r text ≡ b
     → IsReading (λ held n. IsNumber held r text n) (if b then Err Bound else Err Unsupported)
 number_far r text v near far true test = record {
-  given = λ a h. let small = h.limit refl in let same = one_near text v a.0 near h.near in let size = ap unsigned_abs same in absurd (omega arith);
+  given = λ a h. let small = h.limit refl in let same = one_near 6 text v a.0 near h.near in let size = ap unsigned_abs same in absurd (omega arith);
   found = λ a e. absurd (cc);
-  bound = λ e. (record { 0 = v }, record { near = near; in_range = far_in_range_told r text v (sign_of text v near (omega arith)) test; limit = λ held. absurd (cc) });
+  bound = λ e. (record { 0 = v }, record { near = near; in_range = far_in_range_told r text v (text_sign text v near (omega arith)) test; limit = λ held. absurd (cc) });
   some = λ a h e. cc;
   wider = λ a h. record { near = h.near; in_range = h.in_range; limit = λ held. absurd (cc) };
   one = one_number r text;
@@ -163,18 +113,18 @@ number_far r text v near far true test = record {
   no_memory = λ e. cc;
 }
 number_far r text v near far false test = nothing _ (λ held a h.
-    let same = one_near text v a.0 near h.near in
+    let same = one_near 6 text v a.0 near h.near in
     let size = ap unsigned_abs same in
-    let is = far_test r text a (sign_of text a.0 h.near (omega arith)) (omega arith) h.in_range in
+    let is = far_test r text a (text_sign text a.0 h.near (omega arith)) (omega arith) h.in_range in
     cc)
 
-number_at : (r : ValueRange) (text : List ℕ) (res : Result ℤ NumFault) → rounded_reading_of 6 (10 ^ 12) text ≡ res
+number_at : (r : ValueRange) (text : List ℕ) (res : Result ℤ NumFault) → rounded_reading_of 6 MAX_NUMBER text ≡ res
     → IsReading (λ held n. IsNumber held r text n) (reading.number_from r text res)
-number_at r text (Ok v) e = let told = near_told 6 (10 ^ 12) text v e in number_given r text v told.0 told.1 (is_in_range r v) refl
-number_at r text (Err TooLarge) e = let told = far_told 6 (10 ^ 12) text e in number_far r text told.0 told.1 told.2 (far_in_range r text) refl
-number_at r text (Err Syntax) e = nothing _ (λ held a h. none_told 6 (10 ^ 12) text e h.near.0 h.near.1)
-number_at r text (Err TooFine) e = absurd (never_fine 6 (10 ^ 12) text e)
+number_at r text (Ok v) e = let told = near_told 6 MAX_NUMBER text v e in number_given r text v told.0 told.1 (is_in_range r v) refl
+number_at r text (Err TooLarge) e = let told = far_told 6 MAX_NUMBER text e in number_far r text told.0 told.1 told.2 (far_in_range r text) refl
+number_at r text (Err Syntax) e = nothing _ (λ held a h. none_told 6 MAX_NUMBER text e h.near.0 h.near.1)
+number_at r text (Err TooFine) e = absurd (never_fine 6 MAX_NUMBER text e)
 
 pub number_is : (r : ValueRange) (text : List ℕ) → IsReading (λ held n. IsNumber held r text n) (number_in r text)
 unfolding number_in
-number_is r text = number_at r text (rounded_reading_of 6 (10 ^ 12) text) refl
+number_is r text = number_at r text (rounded_reading_of 6 MAX_NUMBER text) refl

@@ -11,7 +11,7 @@ use Rattle.token_parts.specs.declared.fault.ValueFault.TheVariants.{Unsupported}
 use Rattle.value_types.specs.declared.declared.Size.{Size}
 use Rattle.value_types.specs.declared.declared.Unit.{«Unit»}
 use Rattle.value_types.specs.declared.declared.Unit.TheVariants as unit
-use Rattle.value_types.specs.declared.table.ValueRange.{ValueRange}
+use Rattle.value_types.specs.declared.range.ValueRange.{ValueRange}
 use Rattle.value_text.specs.NumberReading.{number_in}
 use Rattle.value_text.specs.Numbers.{IsNumber}
 use Rattle.value_text.specs.Reading.{is_zero, length_in, percent_in, size_of, with_unit, zero_from}

@@ -11,7 +11,7 @@ use Rattle.value_types.specs.declared.property.PropertyId.{PropertyId}
 use Rattle.value_types.specs.declared.property.PropertyId.TheVariants.{BackgroundColor}
 use Rattle.value_types.specs.declared.table.ValueKind.{ValueKind}
 use Rattle.value_types.specs.declared.table.ValueKind.TheVariants as kind
-use Rattle.value_types.specs.declared.table.ValueRange.{ValueRange}
+use Rattle.value_types.specs.declared.range.ValueRange.{ValueRange}
 use Rattle.value_text.specs.declared.cascade.Keyword.{Keyword}
 use Rattle.value_text.specs.declared.color.Rgba.{Rgba}
 use Rattle.value_text.specs.Colors.{IsColor}

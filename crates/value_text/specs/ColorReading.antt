@@ -3,7 +3,7 @@ use Rattle.std.specs.Prelude.{ℕ, pos, if◌then◌else◌, List, [], ◌∷◌
 use Rattle.fix_num.specs.declared.units.Fix.{Fix}
 use Rattle.token_parts.specs.Parts.{Piece, Ident, Function, Hash, Number, Comma, Close}
 use Rattle.token_parts.specs.declared.fault.ValueFault.{ValueFault}
-use Rattle.value_types.specs.declared.table.ValueRange.TheVariants.{ZeroToOne}
+use Rattle.value_types.specs.declared.range.ValueRange.TheVariants.{ZeroToOne}
 use Rattle.value_text.specs.declared.color.Rgba.{Rgba}
 use Rattle.value_text.specs.Colors.{color_named, hex_color, is_color_function}
 use Rattle.value_text.specs.NumberReading.{channel_of, number_in}

@@ -2,11 +2,11 @@
 use Rattle.std.specs.Prelude.{◌≡◌, ℕ, ◌+◌, ◌-◌, ◌*◌, ℤ, pos, Bool, true, nat_lt, if◌then◌else◌, List, [], ◌∷◌, codes, IsTrue, Option, None, Some, option_map}
 use Rattle.std.specs.List.{list_all}
 use Rattle.std.specs.Char.{is_ascii_hexdigit}
-use Rattle.fix_num.specs.Rounding.{rounded}
+use Rattle.fix_num.specs.Rounding.{rounded_quotient}
 use Rattle.fix_num.specs.declared.units.Fix.{Fix}
 use Rattle.token_parts.specs.Keywords.{names, look_up}
 use Rattle.token_parts.specs.Parts.{Piece, Ident, Function, Hash, Number, Comma, Close}
-use Rattle.value_types.specs.declared.table.ValueRange.TheVariants.{ZeroToOne}
+use Rattle.value_types.specs.declared.range.ValueRange.TheVariants.{ZeroToOne}
 use Rattle.value_text.specs.declared.color.Rgba.{Rgba}
 use Rattle.value_text.specs.Numbers.{IsChannel, IsNumber}
 
@@ -59,7 +59,7 @@ double_of c = pair_of c c
 
 -- h of 255 parts, in millionths
 abbrev pub alpha_of : ℕ → ℤ
-alpha_of h = rounded (pos (h * 1000000)) (pos 255)
+alpha_of h = rounded_quotient (pos (h * 1000000)) (pos 255)
 
 -- the colour of three, four, six or eight digits
 abbrev pub hex_digits : List ℕ → Option Rgba

@@ -1,24 +1,17 @@
 -- Numbers of values, as functions of the text.
 use Rattle.std.specs.Prelude.{ℕ, ◌==◌, ℤ, pos, negsuc, Bool, true, false, ◌&&◌, not, nat_le, nat_lt, if◌then◌else◌, length, slice_index, List, Option, None, Some, Result, Ok, Err}
 use Rattle.fix_num.specs.Decimal.{reading_of}
+use Rattle.fix_num.specs.Integer.{has_no_point}
 use Rattle.fix_num.specs.Rounded.{rounded_reading_of}
+use Rattle.fix_num.specs.declared.limits.TheConstants.{MAX_INTEGER, MAX_NUMBER}
 use Rattle.fix_num.specs.declared.units.Fix.{Fix}
 use Rattle.fix_num.specs.declared.decimal.NumFault.{NumFault}
 use Rattle.fix_num.specs.declared.decimal.NumFault.TheVariants.{Syntax, TooFine, TooLarge}
 use Rattle.token_parts.specs.declared.fault.ValueFault.{ValueFault}
 use Rattle.token_parts.specs.declared.fault.ValueFault.TheVariants.{Unsupported, Bound}
-use Rattle.value_types.specs.declared.table.ValueRange.{ValueRange}
-use Rattle.value_types.specs.declared.table.ValueRange.TheVariants.{All, NotNegative, ZeroToOne, Nothing}
-use Rattle.value_text.specs.Numbers.{has_no_point}
-
--- the number of millionths lies in the range
-abbrev pub is_in_range : ValueRange → ℤ → Bool
-is_in_range All n = true
-is_in_range NotNegative (pos n) = true
-is_in_range NotNegative (negsuc n) = false
-is_in_range ZeroToOne (pos n) = nat_le n 1000000
-is_in_range ZeroToOne (negsuc n) = false
-is_in_range Nothing n = true
+use Rattle.value_types.specs.Ranges.{is_in_range}
+use Rattle.value_types.specs.declared.range.ValueRange.{ValueRange}
+use Rattle.value_types.specs.declared.range.ValueRange.TheVariants.{All, NotNegative, ZeroToOne, Nothing}
 
 -- the text's first byte is `-`
 abbrev pub begins_minus : List ℕ → Bool
@@ -40,7 +33,7 @@ number_from range text (Err TooFine) = Err Unsupported
 
 -- the number that the text spells, in the range and within the limit
 unfoldable pub number_in : ValueRange → List ℕ → Result Fix ValueFault
-number_in range text = number_from range text (rounded_reading_of 6 (1000000000000) text)
+number_in range text = number_from range text (rounded_reading_of 6 MAX_NUMBER text)
 
 -- the integer, from what the digits say
 abbrev pub integer_from : Result ℤ NumFault → Result ℤ ValueFault
@@ -51,7 +44,7 @@ integer_from (Err TooFine) = Err Unsupported
 
 -- the integer that the text is, within the limit
 unfoldable pub integer_in : List ℕ → Result ℤ ValueFault
-integer_in text = (if has_no_point text then integer_from (reading_of 0 2147483647 text) else Err Unsupported)
+integer_in text = (if has_no_point text then integer_from (reading_of 0 MAX_INTEGER text) else Err Unsupported)
 
 -- the integer that isn't negative, from what the digits say
 abbrev pub natural_from : Result ℤ NumFault → Option ℕ

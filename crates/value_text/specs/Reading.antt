@@ -5,6 +5,7 @@ use Rattle.token_parts.specs.Keywords.{names, look_up}
 use Rattle.token_parts.specs.Parts.{Piece, Ident, Function, Hash, Number, Percent, Dimension, Comma, Close, Other}
 use Rattle.token_parts.specs.declared.fault.ValueFault.{ValueFault}
 use Rattle.token_parts.specs.declared.fault.ValueFault.TheVariants.{Unsupported, BoundItems, Bound, NoMemory}
+use Rattle.value_types.specs.Keywords.{display_named, visibility_named}
 use Rattle.value_types.specs.Table.{takes, is_inherited}
 use Rattle.value_types.specs.Validity.{declared_range_of}
 use Rattle.value_types.specs.declared.declared.Declared.{Declared}
@@ -15,13 +16,13 @@ use Rattle.value_types.specs.declared.declared.Unit.TheVariants as unit
 use Rattle.value_types.specs.declared.property.PropertyId.{PropertyId}
 use Rattle.value_types.specs.declared.table.ValueKind.{ValueKind}
 use Rattle.value_types.specs.declared.table.ValueKind.TheVariants as kind
-use Rattle.value_types.specs.declared.table.ValueRange.{ValueRange}
-use Rattle.value_types.specs.declared.table.ValueRange.TheVariants.{All}
+use Rattle.value_types.specs.declared.range.ValueRange.{ValueRange}
+use Rattle.value_types.specs.declared.range.ValueRange.TheVariants.{All}
 use Rattle.value_text.specs.declared.cascade.Keyword.{Keyword}
 use Rattle.value_text.specs.ColorReading.{color_of}
 use Rattle.value_text.specs.NumberReading.{integer_in, number_in}
 use Rattle.value_text.specs.Sizes.{length_units, zero_pixels}
-use Rattle.value_text.specs.Spelling.{cascade_keyword, colored, declared_by, declared_percent, display_words, visibility_words}
+use Rattle.value_text.specs.Spelling.{cascade_keyword, colored, declared_by, declared_percent}
 
 -- ---- steps
 
@@ -129,8 +130,8 @@ kind_in p kind.Color parts = supported (option_map colored (color_of parts))
 kind_in p kind.Angle parts = read_of (angle_in (declared_range_of p)) (lone parts)
 kind_in p kind.Pair parts = pair_in parts
 kind_in p kind.Absent parts = read_of (keyword_in (codes "none") declared.Absent) (lone_word parts)
-kind_in p kind.Visibility parts = read_of (λ word. supported (option_map declared.Visible (look_up visibility_words word))) (lone_word parts)
-kind_in p kind.Display parts = read_of (λ word. supported (option_map declared.Display (look_up display_words word))) (lone_word parts)
+kind_in p kind.Visibility parts = read_of (λ word. supported (option_map declared.Visible (visibility_named word))) (lone_word parts)
+kind_in p kind.Display parts = read_of (λ word. supported (option_map declared.Display (display_named word))) (lone_word parts)
 
 -- ---- the kind of a value
 

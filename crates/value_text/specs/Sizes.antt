@@ -5,7 +5,7 @@ use Rattle.token_parts.specs.Parts.{Piece, Number, Percent, Dimension}
 use Rattle.value_types.specs.declared.declared.Size.{Size}
 use Rattle.value_types.specs.declared.declared.Unit.{«Unit»}
 use Rattle.value_types.specs.declared.declared.Unit.TheVariants as unit
-use Rattle.value_types.specs.declared.table.ValueRange.{ValueRange}
+use Rattle.value_types.specs.declared.range.ValueRange.{ValueRange}
 use Rattle.value_text.specs.Numbers.{IsNumber}
 
 -- the units of lengths

@@ -1,11 +1,12 @@
--- The spellings of a property's values: the "Value" line of its definition, by CSS Values 3, sections 2 and 4 to 6.
+-- The spellings of a property's values: the "Value" line of its definition, by CSS Values 3.
 use Rattle.std.specs.Prelude.{◌≡◌, ℕ, ℤ, pos, Bool, true, false, List, [], ◌∷◌, codes, IsTrue, Option, None, Some, Result, Ok, Err, ⊤}
-use Rattle.fix_num.specs.Rounding.{rounded}
+use Rattle.fix_num.specs.Rounding.{rounded_quotient}
 use Rattle.fix_num.specs.declared.units.Fix.{Fix}
 use Rattle.token_parts.specs.Keywords.{names, look_up}
 use Rattle.token_parts.specs.Parts.{Piece, Ident, Number, Dimension}
 use Rattle.token_parts.specs.declared.fault.ValueFault.{ValueFault}
 use Rattle.token_parts.specs.declared.fault.ValueFault.TheVariants.{Unsupported, BoundItems, Bound, NoMemory}
+use Rattle.value_types.specs.Keywords.{display_named, visibility_named}
 use Rattle.value_types.specs.Table.{takes, is_inherited}
 use Rattle.value_types.specs.Validity.{declared_range_of}
 use Rattle.value_types.specs.declared.declared.Declared.{Declared}
@@ -15,11 +16,9 @@ use Rattle.value_types.specs.declared.property.PropertyId.{PropertyId}
 use Rattle.value_types.specs.declared.property.PropertyId.TheVariants.{Opacity}
 use Rattle.value_types.specs.declared.table.ValueKind.{ValueKind}
 use Rattle.value_types.specs.declared.table.ValueKind.TheVariants as kind
-use Rattle.value_types.specs.declared.table.ValueRange.TheVariants.{All}
+use Rattle.value_types.specs.declared.range.ValueRange.TheVariants.{All}
 use Rattle.value_types.specs.declared.value.Display.{Display}
-use Rattle.value_types.specs.declared.value.Display.TheVariants as shown
 use Rattle.value_types.specs.declared.value.Visibility.{Visibility}
-use Rattle.value_types.specs.declared.value.Visibility.TheVariants as seen
 use Rattle.value_text.specs.declared.cascade.Keyword.{Keyword}
 use Rattle.value_text.specs.declared.cascade.Keyword.TheVariants as cascade
 use Rattle.value_text.specs.declared.color.Rgba.{Rgba}
@@ -29,7 +28,7 @@ use Rattle.value_text.specs.Sizes.{IsLength, IsPercent, zero_pixels}
 
 -- ---- keywords
 
--- the keywords of the cascade (CSS Cascade 5, section 7.3)
+-- the keywords of the cascade (CSS Cascade 5, "Explicit Defaulting")
 abbrev pub cascade_words : List (List ℕ × Keyword)
 cascade_words = (codes "initial", cascade.Initial) ∷ (codes "inherit", cascade.Inherit) ∷ (codes "unset", cascade.Unset) ∷ []
 
@@ -46,33 +45,11 @@ declared_by false cascade.Inherit = None
 declared_by true cascade.Unset = Some declared.Inherit
 declared_by false cascade.Unset = Some declared.Initial
 
--- the keywords of visibility (CSS 2.2, section 11.2)
-abbrev pub visibility_words : List (List ℕ × Visibility)
-visibility_words =
-    (codes "visible", seen.Visible) ∷ (codes "hidden", seen.Hidden) ∷ (codes "collapse", seen.Collapse) ∷ []
-
--- the keywords of display (CSS Display 3, section 2)
-abbrev pub display_words : List (List ℕ × Display)
-display_words =
-    (codes "none", shown.Nothing)
-    ∷ (codes "block", shown.Block)
-    ∷ (codes "inline", shown.Inline)
-    ∷ (codes "inline-block", shown.InlineBlock)
-    ∷ (codes "flow-root", shown.FlowRoot)
-    ∷ (codes "list-item", shown.ListItem)
-    ∷ (codes "flex", shown.Flex)
-    ∷ (codes "inline-flex", shown.InlineFlex)
-    ∷ (codes "grid", shown.Grid)
-    ∷ (codes "inline-grid", shown.InlineGrid)
-    ∷ (codes "table", shown.Table)
-    ∷ (codes "contents", shown.Contents)
-    ∷ []
-
 -- ---- the forms of values
 
--- a percent of opacity is declared as a number (CSS Color 4, section 3.1)
+-- a percent of opacity is declared as a number (CSS Color 4, "Transparency: the opacity property")
 abbrev pub declared_percent : PropertyId → Size → Declared
-declared_percent Opacity s = declared.Number (record { 0 = rounded s.amount.0 (pos 100) })
+declared_percent Opacity s = declared.Number (record { 0 = rounded_quotient s.amount.0 (pos 100) })
 declared_percent p s = declared.Length s
 
 -- a colour, declared
@@ -100,9 +77,9 @@ pub data IsSpelling (held : Bool) (p : PropertyId) : ValueKind → List Piece �
   two_parts : (first second : Piece) (x y : Size) → IsPart held first x → IsPart held second y
       → IsSpelling held p kind.Pair (first ∷ second ∷ []) (declared.Pair x y)
   absent : (word : List ℕ) → IsTrue (names word (codes "none")) → IsSpelling held p kind.Absent (Ident word ∷ []) declared.Absent
-  visibility : (word : List ℕ) (v : Visibility) → look_up visibility_words word ≡ Some v
+  visibility : (word : List ℕ) (v : Visibility) → visibility_named word ≡ Some v
       → IsSpelling held p kind.Visibility (Ident word ∷ []) (declared.Visible v)
-  display : (word : List ℕ) (v : Display) → look_up display_words word ≡ Some v
+  display : (word : List ℕ) (v : Display) → display_named word ≡ Some v
       → IsSpelling held p kind.Display (Ident word ∷ []) (declared.Display v)
 
 -- the parts declare the property so: by a keyword of the cascade, or else by a value of a kind that its row names

@@ -1,19 +1,20 @@
 //! Values of one kind.
 ghost use Rattle.std.specs.Prelude.{if◌then◌else◌, ◌≡◌, ◌∷◌, map, option_map, pos, codes};
-ghost use Rattle.fix_num.specs.Rounding.{rounded};
-ghost use Rattle.token_parts.specs.Keywords.{look_up, names};
+ghost use Rattle.fix_num.specs.Rounding.{rounded_quotient};
+ghost use Rattle.token_parts.specs.Keywords.{names};
 ghost use Rattle.token_parts.specs.Parts.{seen};
+ghost use Rattle.value_types.specs.Keywords.{display_named, visibility_named};
 ghost use Rattle.value_types.specs.Validity.{declared_range_of};
 ghost use Rattle.value_text.specs.ColorReading.{color_of};
 ghost use Rattle.value_text.specs.NumberReading.{integer_in, number_in};
 ghost use Rattle.value_text.specs.Reading.{angle_in, both, keyword_in, kind_in, length_in, lone, lone_number, lone_word, mapped, pair_in, percent_in, read_of, supported};
-ghost use Rattle.value_text.specs.Spelling.{colored, declared_percent, display_words, visibility_words};
+ghost use Rattle.value_text.specs.Spelling.{colored, declared_percent};
 
 use crate::color::color;
 use crate::number::{integer, number};
 use crate::size::{length, length_or_percent, percent, zero_pixels};
 use fix_num::{Fix, rnd};
-use token_parts::{Part, ValueFault, is_keyword, look_up};
+use token_parts::{Part, ValueFault, is_keyword};
 use value_types::{
     Declared, Display, PropertyId, Size, ValueKind, ValueRange, Visibility, range_of,
 };
@@ -101,7 +102,7 @@ fn declared_percent(p: PropertyId, size: Size) -> Declared
 }
 
 fn hundredth(n: Fix) -> Fix
-    ensures { result ≡ record { 0 = rounded n.0 (pos 100) } }
+    ensures { result ≡ record { 0 = rounded_quotient n.0 (pos 100) } }
 {
     Fix(rnd(i128::from(n.0), 100) as i64)
 }
@@ -198,10 +199,10 @@ fn both(x: Result<Size, ValueFault>, y: Result<Size, ValueFault>) -> Result<Decl
 }
 
 fn visibility_value(parts: &[Part]) -> Result<Declared, ValueFault>
-    ensures { result ≡ read_of (λ word. supported (option_map Declared.Visible (look_up visibility_words word))) (lone_word (map seen parts.now)) }
+    ensures { result ≡ read_of (λ word. supported (option_map Declared.Visible (visibility_named word))) (lone_word (map seen parts.now)) }
 {
     match parts {
-        [Part::Ident(word)] => match visibility_named(word) {
+        [Part::Ident(word)] => match Visibility::by_keyword(word) {
             Some(v) => Ok(Declared::Visible(v)),
             None => Err(ValueFault::Unsupported),
         },
@@ -209,49 +210,14 @@ fn visibility_value(parts: &[Part]) -> Result<Declared, ValueFault>
     }
 }
 
-fn visibility_named(word: &[u8]) -> Option<Visibility>
-    ensures { result ≡ look_up visibility_words word.now }
-{
-    look_up(
-        &[
-            ("visible", Visibility::Visible),
-            ("hidden", Visibility::Hidden),
-            ("collapse", Visibility::Collapse),
-        ],
-        word,
-    )
-}
-
 fn display_value(parts: &[Part]) -> Result<Declared, ValueFault>
-    ensures { result ≡ read_of (λ word. supported (option_map Declared.Display (look_up display_words word))) (lone_word (map seen parts.now)) }
+    ensures { result ≡ read_of (λ word. supported (option_map Declared.Display (display_named word))) (lone_word (map seen parts.now)) }
 {
     match parts {
-        [Part::Ident(word)] => match display_named(word) {
+        [Part::Ident(word)] => match Display::by_keyword(word) {
             Some(d) => Ok(Declared::Display(d)),
             None => Err(ValueFault::Unsupported),
         },
         _ => Err(ValueFault::Unsupported),
     }
-}
-
-fn display_named(word: &[u8]) -> Option<Display>
-    ensures { result ≡ look_up display_words word.now }
-{
-    look_up(
-        &[
-            ("none", Display::Nothing),
-            ("block", Display::Block),
-            ("inline", Display::Inline),
-            ("inline-block", Display::InlineBlock),
-            ("flow-root", Display::FlowRoot),
-            ("list-item", Display::ListItem),
-            ("flex", Display::Flex),
-            ("inline-flex", Display::InlineFlex),
-            ("grid", Display::Grid),
-            ("inline-grid", Display::InlineGrid),
-            ("table", Display::Table),
-            ("contents", Display::Contents),
-        ],
-        word,
-    )
 }

@@ -1,25 +1,22 @@
 //! Numbers and integers of values.
-ghost use Rattle.std.specs.Prelude.{◌≡◌, ◌==◌, not};
-ghost use Rattle.std.specs.List.{list_all};
-ghost use Rattle.value_text.specs.NumberReading.{begins_minus, channel_of, far_in_range, integer_in, is_in_range, number_in};
-ghost use Rattle.value_text.specs.Numbers.{has_no_point};
+ghost use Rattle.std.specs.Prelude.{◌≡◌};
+ghost use Rattle.value_text.specs.NumberReading.{begins_minus, channel_of, far_in_range, integer_in, number_in};
 
-use fix_num::{Fix, NumFault, read_decimal_bytes, read_rounded_bytes};
+use fix_num::limits::{MAX_INTEGER, MAX_NUMBER};
+use fix_num::{Fix, NumFault, has_no_point, read_decimal_bytes, read_rounded_bytes};
 use token_parts::ValueFault;
 use value_types::ValueRange;
 
-const LIMIT: i64 = 1_000_000_000_000;
-
-const LARGEST_INTEGER: i64 = 2_147_483_647;
+const LARGEST_INTEGER: i64 = MAX_INTEGER as i64;
 
 /// The number in millionths, which is in the range.
 #[tactic(auto, unfolding(crate::specs::NumberReading::number_in))]
 pub(crate) fn number(range: ValueRange, text: &[u8]) -> Result<Fix, ValueFault>
     ensures { result ≡ number_in range text.now }
 {
-    match read_rounded_bytes(text, 6, LIMIT) {
+    match read_rounded_bytes(text, 6, MAX_NUMBER as i64) {
         Ok(n) => {
-            if is_in_range(range, n) {
+            if range.contains(Fix(n)) {
                 Ok(Fix(n))
             } else {
                 Err(ValueFault::Unsupported)
@@ -34,16 +31,6 @@ pub(crate) fn number(range: ValueRange, text: &[u8]) -> Result<Fix, ValueFault>
         }
         Err(NumFault::Syntax) => Err(ValueFault::Unsupported),
         Err(NumFault::TooFine) => Err(ValueFault::Unsupported),
-    }
-}
-
-fn is_in_range(range: ValueRange, n: i64) -> bool
-    ensures { result ≡ is_in_range range n }
-{
-    match range {
-        ValueRange::All | ValueRange::Nothing => true,
-        ValueRange::NotNegative => n >= 0,
-        ValueRange::ZeroToOne => n >= 0 && n <= 1_000_000,
     }
 }
 
@@ -95,10 +82,4 @@ pub(crate) fn channel(text: &[u8]) -> Option<u8>
         return None;
     }
     Some(i as u8)
-}
-
-fn has_no_point(text: &[u8]) -> bool
-    ensures { result ≡ has_no_point text.now }
-{
-    text.iter().all(|byte| *byte != b'.')
 }

@@ -2,12 +2,13 @@
 -- CSS Color 4, CSS Display 3, CSS Fonts 4, CSS Position 3, CSS Sizing 3, CSS Text 3, CSS Transforms 2 and CSS 2.2).
 use Rattle.std.specs.Prelude.{ℕ, pos, Bool, true, false}
 use Rattle.fix_num.specs.declared.units.Fix.{Fix}
+use Rattle.fix_num.specs.declared.units.TheConstants.Fix.{ONE}
 use Rattle.value_types.specs.declared.property.PropertyId.{PropertyId}
 use Rattle.value_types.specs.declared.property.PropertyId.TheVariants as property
 use Rattle.value_types.specs.declared.table.ValueKind.{ValueKind}
 use Rattle.value_types.specs.declared.table.ValueKind.TheVariants as kind
-use Rattle.value_types.specs.declared.table.ValueRange.{ValueRange}
-use Rattle.value_types.specs.declared.table.ValueRange.TheVariants as range
+use Rattle.value_types.specs.declared.range.ValueRange.{ValueRange}
+use Rattle.value_types.specs.declared.range.ValueRange.TheVariants as range
 use Rattle.value_types.specs.declared.value.Value.{Value}
 use Rattle.value_types.specs.declared.value.Value.TheVariants as value
 use Rattle.value_types.specs.declared.value.Visibility.TheVariants.{Visible}
@@ -154,10 +155,11 @@ range_of property.Visibility = range.Nothing
 range_of property.Width = range.NotNegative
 range_of property.ZIndex = range.All
 
--- whether a computed value keeps a percent: that of font-size is of the parent's and that of opacity is a number
+-- whether a percent stays one in the computed value: that of font-size is of the parent's and that of opacity is a number
 abbrev pub keeps_percent : PropertyId → Bool
 keeps_percent property.FontSize = false
 keeps_percent property.Opacity = false
+keeps_percent property.Translate = true
 keeps_percent p = takes p kind.Percent
 
 -- ---- the initial values
@@ -171,14 +173,14 @@ abbrev pub pixels : ℕ → Value
 pixels n = value.Length (fix n) (fix 0)
 
 -- black with this alpha
-abbrev pub black : ℕ → Value
-black alpha = value.Color 0 0 0 (fix alpha)
+abbrev pub black : Fix → Value
+black alpha = value.Color 0 0 0 alpha
 
 -- the initial value of the property, as computed
 abbrev pub initial_value : PropertyId → Value
-initial_value property.BackgroundColor = black 0
+initial_value property.BackgroundColor = black (fix 0)
 initial_value property.Bottom = value.Auto
-initial_value property.Color = black 1000000
+initial_value property.Color = black ONE
 initial_value property.Display = value.Display Inline
 initial_value property.FontSize = pixels 16000000
 initial_value property.Height = value.Auto
@@ -188,7 +190,7 @@ initial_value property.MarginBottom = pixels 0
 initial_value property.MarginLeft = pixels 0
 initial_value property.MarginRight = pixels 0
 initial_value property.MarginTop = pixels 0
-initial_value property.Opacity = value.Number (fix 1000000)
+initial_value property.Opacity = value.Number ONE
 initial_value property.PaddingBottom = pixels 0
 initial_value property.PaddingLeft = pixels 0
 initial_value property.PaddingRight = pixels 0

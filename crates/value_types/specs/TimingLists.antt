@@ -1,7 +1,9 @@
--- The timing lists of an element (CSS Transitions 1, section 2; CSS Animations 1, section 4).
-use Rattle.std.specs.Prelude.{ℕ, ◌<◌, List, [], ◌∷◌, length, All, pos, Option, None}
+-- The timing lists of an element (CSS Transitions 1, "Transitions"; CSS Animations 1, "Declaring Animations").
+use Rattle.std.specs.Prelude.{ℕ, ◌<◌, ◌≤◌, List, [], ◌∷◌, length, All, pos, Option, None}
 use Rattle.fix_num.specs.declared.units.Micros.{Micros}
+use Rattle.fix_num.specs.declared.units.TheConstants.Fix.{ONE}
 use Rattle.value_types.specs.declared.easing.Easing.{Easing}
+use Rattle.value_types.specs.declared.limits.TheConstants.{MAX_ITEMS}
 use Rattle.value_types.specs.declared.shorthand.PropertyItem.{PropertyItem}
 use Rattle.value_types.specs.declared.shorthand.PropertyItem.TheVariants as item
 use Rattle.value_types.specs.declared.timing.Count.{Count}
@@ -12,7 +14,8 @@ use Rattle.value_types.specs.declared.timing.Fill.{Fill}
 use Rattle.value_types.specs.declared.timing.Fill.TheVariants.{Nothing}
 use Rattle.value_types.specs.declared.timing.PlayState.{PlayState}
 use Rattle.value_types.specs.declared.timing.PlayState.TheVariants.{Running}
-use Rattle.value_types.specs.Timing.{IsEasing, IsDuration, IsDelay, IsCount, ease}
+use Rattle.value_types.specs.Names.{IsNameItem}
+use Rattle.value_types.specs.Timing.{IsAny, IsEasing, IsDuration, IsDelay, IsCount, ease}
 
 -- the four lists that time transitions; no item of transition-property is the keyword none
 pub record TransitionValues : Type 0 where
@@ -32,27 +35,29 @@ pub record AnimationValues : Type 0 where
   pub fills : List Fill
   pub states : List PlayState
 
--- a list of such items, at least one
+-- a list of such items: at least one, and at most as many as a list has
 pub record IsListOf {T : Type 0} (P : T → Type 0) (xs : List T) : Type 0 where
   pub some : 0 < length xs
+  pub few : length xs ≤ MAX_ITEMS
   pub each : All P xs
 
 -- the lists keep their bounds, and only that of properties may be empty
 pub record IsTransitionValues (v : TransitionValues) : Type 0 where
+  pub items : length v.items ≤ MAX_ITEMS
   pub durations : IsListOf IsDuration v.durations
   pub delays : IsListOf IsDelay v.delays
   pub easings : IsListOf IsEasing v.easings
 
 -- the lists keep their bounds, and none is empty
 pub record IsAnimationValues (v : AnimationValues) : Type 0 where
-  pub names : 0 < length v.names
+  pub names : IsListOf IsNameItem v.names
   pub durations : IsListOf IsDuration v.durations
   pub delays : IsListOf IsDelay v.delays
   pub easings : IsListOf IsEasing v.easings
   pub counts : IsListOf IsCount v.counts
-  pub directions : 0 < length v.directions
-  pub fills : 0 < length v.fills
-  pub states : 0 < length v.states
+  pub directions : IsListOf IsAny v.directions
+  pub fills : IsListOf IsAny v.fills
+  pub states : IsListOf IsAny v.states
 
 -- the four lists together
 abbrev pub transition_values : List PropertyItem → List Micros → List Micros → List Easing → TransitionValues
@@ -79,7 +84,7 @@ no_time = record { 0 = pos 0 }
 
 -- an iteration count of 1
 abbrev pub once : Count
-once = Times (record { 0 = pos 1000000 })
+once = Times ONE
 
 -- the initial values: all, 0s, 0s, ease
 abbrev pub initial_transitions : TransitionValues

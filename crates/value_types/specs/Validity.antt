@@ -1,5 +1,5 @@
 -- Which values stand for a property: of a kind that its row names, in its range, within the limits.
-use Rattle.std.specs.Prelude.{◌≡◌, ◌^◌, ◌≤◌, ℤ, pos, ◌≤ℤ◌, unsigned_abs, IsTrue, MatchBool, ⊤}
+use Rattle.std.specs.Prelude.{◌≡◌, ◌≤◌, ℕ, pos, IsTrue, MatchBool, ⊤}
 use Rattle.fix_num.specs.declared.units.Fix.{Fix}
 use Rattle.value_types.specs.declared.declared.Declared.{Declared}
 use Rattle.value_types.specs.declared.declared.Declared.TheVariants as declared
@@ -10,32 +10,25 @@ use Rattle.value_types.specs.declared.property.PropertyId.{PropertyId}
 use Rattle.value_types.specs.declared.property.PropertyId.TheVariants.{Opacity}
 use Rattle.value_types.specs.declared.table.ValueKind.{ValueKind}
 use Rattle.value_types.specs.declared.table.ValueKind.TheVariants as kind
-use Rattle.value_types.specs.declared.table.ValueRange.{ValueRange}
-use Rattle.value_types.specs.declared.table.ValueRange.TheVariants.{All, NotNegative, ZeroToOne, Nothing}
+use Rattle.value_types.specs.declared.range.ValueRange.{ValueRange}
+use Rattle.value_types.specs.declared.range.ValueRange.TheVariants.{All, ZeroToOne}
 use Rattle.value_types.specs.declared.value.Value.{Value}
 use Rattle.value_types.specs.declared.value.Value.TheVariants as value
+use Rattle.value_types.specs.Ranges.{IsInRange, IsInteger, IsWithinLimit}
 use Rattle.value_types.specs.Table.{takes, is_inherited, keeps_percent, range_of}
 
--- ---- numbers
-
--- a number, a length, a percent or an angle within the limit of a million
-abbrev pub IsWithinLimit : Fix → Type 0
-IsWithinLimit n = unsigned_abs n.0 ≤ 10 ^ 12
-
--- the number lies in the range
-abbrev pub IsInRange : ValueRange → Fix → Type 0
-IsInRange All n = ⊤
-IsInRange NotNegative n = pos 0 ≤ℤ n.0
-IsInRange ZeroToOne n = (pos 0 ≤ℤ n.0) × (n.0 ≤ℤ pos (10 ^ 6))
-IsInRange Nothing n = ⊤
-
--- an integer within the limit
-abbrev pub IsInteger : ℤ → Type 0
-IsInteger i = unsigned_abs i ≤ 2147483647
+-- ---- colours
 
 -- an alpha from 0 to 1
 abbrev pub IsAlpha : Fix → Type 0
 IsAlpha a = IsInRange ZeroToOne a
+
+-- the channels of sRGB from 0 to 255, and the alpha
+pub record IsRgba (r g b : ℕ) (a : Fix) : Type 0 where
+  pub red : r ≤ 255
+  pub green : g ≤ 255
+  pub blue : b ≤ 255
+  pub alpha : IsAlpha a
 
 -- ---- computed values
 
@@ -54,7 +47,7 @@ IsValid p (value.Number n) = IsTrue (takes p kind.Number) × IsNumberFor p n
 IsValid p (value.Length px pct) = IsTrue (takes p kind.Length) × IsNumberFor p px × IsPercentFor p pct
 IsValid p value.Auto = IsTrue (takes p kind.Auto)
 IsValid p (value.Int i) = IsTrue (takes p kind.Int) × IsInteger i
-IsValid p (value.Color r g b a) = IsTrue (takes p kind.Color) × IsAlpha a
+IsValid p (value.Color r g b a) = IsTrue (takes p kind.Color) × IsRgba r g b a
 IsValid p (value.Angle n) = IsTrue (takes p kind.Angle) × IsNumberFor p n
 IsValid p (value.Pair x_px x_pct y_px y_pct) =
     IsTrue (takes p kind.Pair) × IsNumberFor p x_px × IsNumberFor p x_pct × IsNumberFor p y_px × IsNumberFor p y_pct
@@ -64,7 +57,7 @@ IsValid p (value.Display d) = IsTrue (takes p kind.Display)
 
 -- ---- declared values
 
--- the range of declared numbers: opacity is clamped only when it is computed (CSS Color 4, section 3.1)
+-- the range of declared numbers: opacity is clamped only when it is computed (CSS Color 4, "Transparency: the opacity property")
 abbrev pub declared_range_of : PropertyId → ValueRange
 declared_range_of Opacity = All
 declared_range_of p = range_of p
@@ -93,7 +86,7 @@ IsDeclaredFor p (declared.Number n) = IsTrue (takes p kind.Number) × IsDeclared
 IsDeclaredFor p (declared.Length s) = IsSizeFor p s
 IsDeclaredFor p declared.Auto = IsTrue (takes p kind.Auto)
 IsDeclaredFor p (declared.Int i) = IsTrue (takes p kind.Int) × IsInteger i
-IsDeclaredFor p (declared.Color r g b a) = IsTrue (takes p kind.Color) × IsAlpha a
+IsDeclaredFor p (declared.Color r g b a) = IsTrue (takes p kind.Color) × IsRgba r g b a
 IsDeclaredFor p (declared.Angle n) = IsTrue (takes p kind.Angle) × IsDeclaredNumberFor p n
 IsDeclaredFor p (declared.Pair x y) =
     IsTrue (takes p kind.Pair) × IsDeclaredNumberFor p x.amount × IsDeclaredNumberFor p y.amount

@@ -1,27 +1,41 @@
 //! The lists that time animations.
 
-ghost use Rattle.std.specs.Prelude.{◌≡◌, ◌<◌, length, IfOk};
-ghost use Rattle.value_types.specs.Timing.{IsCount, IsDelay, IsDuration, IsEasing};
-ghost use Rattle.value_types.specs.TimingLists.{IsListOf, initial_animations, animation_values};
+ghost use Rattle.std.specs.Prelude.{◌≡◌, ◌↔◌, [], ◌∷◌, IfOk, IsTrue};
+ghost use Rattle.value_types.specs.Names.{IsNameItem};
+ghost use Rattle.value_types.specs.Timing.{IsAny, IsCount, IsDelay, IsDuration, IsEasing, ease};
+ghost use Rattle.value_types.specs.TimingLists.{IsListOf, animation_values, initial_animations, no_time, once};
 
 use crate::easing::Easing;
 use crate::items::Items;
 use crate::name::{Name, copy_names};
+use crate::same::Same;
 use crate::timing::{Count, Direction, Fill, PlayState};
 use fix_num::{Fix, Micros};
 use std::alloc::{AllocError, Global};
 use std::marker::Model;
 
-/// The eight lists that time the animations of an element (CSS Animations 1, section 4). Durations are 0 to
-/// 10^15 microseconds, delays within 10^15, counts 0 to 10^12 millionths or without end, easings within their
-/// bounds; none is empty.
-#[derive(Debug, Drop)]
+/// The eight lists that time the animations of an element (CSS Animations 1, "Declaring Animations"). Durations
+/// are 0 to 10^15 microseconds, delays within 10^15, counts 0 to 10^12 millionths or without end, easings within
+/// their bounds, names those of animations. Each list has 1 to 32 items.
+#[derive(Drop)]
 pub struct AnimationLists {
     names: Items<Option<Name>>,
+    timing: Timing,
+    playing: Playing,
+}
+
+/// When the iterations begin, how long they last, how they run and how many there are.
+#[derive(Drop)]
+struct Timing {
     durations: Items<Micros>,
     delays: Items<Micros>,
     easings: Items<Easing>,
     counts: Items<Count>,
+}
+
+/// Which way they run, what is shown outside of them, and whether they run at all.
+#[derive(Drop)]
+struct Playing {
     directions: Items<Direction>,
     fills: Items<Fill>,
     states: Items<PlayState>,
@@ -32,9 +46,74 @@ impl Model for AnimationLists {
 
     ghost Value = { AnimationValues };
 
-    ghost view = { λ l. animation_values l.names l.durations l.delays l.easings l.counts l.directions l.fills l.states };
+    ghost view = { λ l. animation_values l.names l.timing.durations l.timing.delays l.timing.easings l.timing.counts
+        l.playing.directions l.playing.fills l.playing.states };
 
-    ghost invariant = { λ l. IsAnimationValues (animation_values l.names l.durations l.delays l.easings l.counts l.directions l.fills l.states) };
+    ghost invariant = { λ l. IsAnimationValues (animation_values l.names l.timing.durations l.timing.delays l.timing.easings
+        l.timing.counts l.playing.directions l.playing.fills l.playing.states) };
+}
+
+impl Timing {
+    fn initial(alloc: Global) -> Result<Timing, AllocError>
+        ensures { IfOk result (λ t. (t.durations ≡ no_time ∷ []) × (t.delays ≡ no_time ∷ []) × (t.easings ≡ ease ∷ []) × (t.counts ≡ once ∷ [])) }
+    {
+        Ok(Timing {
+            durations: Items::of(alloc, Micros(0))?,
+            delays: Items::of(alloc, Micros(0))?,
+            easings: Items::of(alloc, Easing::ease())?,
+            counts: Items::of(alloc, Count::Times(Fix::ONE))?,
+        })
+    }
+
+    fn copy(&self, alloc: Global) -> Result<Timing, AllocError>
+        ensures { IfOk result (λ copy. copy ≡ self.now) }
+    {
+        Ok(Timing {
+            durations: self.durations.copy(alloc)?,
+            delays: self.delays.copy(alloc)?,
+            easings: self.easings.copy(alloc)?,
+            counts: self.counts.copy(alloc)?,
+        })
+    }
+
+    fn is_same(&self, other: &Timing) -> bool
+        ensures { IsTrue result ↔ (self.now ≡ other.now) }
+    {
+        self.durations.is_same(&other.durations)
+            && self.delays.is_same(&other.delays)
+            && self.easings.is_same(&other.easings)
+            && self.counts.is_same(&other.counts)
+    }
+}
+
+impl Playing {
+    fn initial(alloc: Global) -> Result<Playing, AllocError>
+        ensures { IfOk result (λ p. (p.directions ≡ Direction.Normal ∷ []) × (p.fills ≡ Fill.Nothing ∷ []) × (p.states ≡ PlayState.Running ∷ [])) }
+    {
+        Ok(Playing {
+            directions: Items::of(alloc, Direction::Normal)?,
+            fills: Items::of(alloc, Fill::Nothing)?,
+            states: Items::of(alloc, PlayState::Running)?,
+        })
+    }
+
+    fn copy(&self, alloc: Global) -> Result<Playing, AllocError>
+        ensures { IfOk result (λ copy. copy ≡ self.now) }
+    {
+        Ok(Playing {
+            directions: self.directions.copy(alloc)?,
+            fills: self.fills.copy(alloc)?,
+            states: self.states.copy(alloc)?,
+        })
+    }
+
+    fn is_same(&self, other: &Playing) -> bool
+        ensures { IsTrue result ↔ (self.now ≡ other.now) }
+    {
+        self.directions.is_same(&other.directions)
+            && self.fills.is_same(&other.fills)
+            && self.states.is_same(&other.states)
+    }
 }
 
 impl AnimationLists {
@@ -49,25 +128,29 @@ impl AnimationLists {
         fills: Items<Fill>,
         states: Items<PlayState>,
     ) -> Self
-        requires names { 0 < length names }
+        requires names { IsListOf IsNameItem names }
         requires durations { IsListOf IsDuration durations }
         requires delays { IsListOf IsDelay delays }
         requires easings { IsListOf IsEasing easings }
         requires counts { IsListOf IsCount counts }
-        requires directions { 0 < length directions }
-        requires fills { 0 < length fills }
-        requires states { 0 < length states }
+        requires directions { IsListOf IsAny directions }
+        requires fills { IsListOf IsAny fills }
+        requires states { IsListOf IsAny states }
         ensures { result ≡ animation_values names durations delays easings counts directions fills states }
     {
         AnimationLists {
             names,
-            durations,
-            delays,
-            easings,
-            counts,
-            directions,
-            fills,
-            states,
+            timing: Timing {
+                durations,
+                delays,
+                easings,
+                counts,
+            },
+            playing: Playing {
+                directions,
+                fills,
+                states,
+            },
         }
     }
 
@@ -77,13 +160,8 @@ impl AnimationLists {
     {
         Ok(AnimationLists {
             names: Items::of(alloc, None)?,
-            durations: Items::of(alloc, Micros(0))?,
-            delays: Items::of(alloc, Micros(0))?,
-            easings: Items::of(alloc, Easing::ease())?,
-            counts: Items::of(alloc, Count::Times(Fix(1_000_000)))?,
-            directions: Items::of(alloc, Direction::Normal)?,
-            fills: Items::of(alloc, Fill::Nothing)?,
-            states: Items::of(alloc, PlayState::Running)?,
+            timing: Timing::initial(alloc)?,
+            playing: Playing::initial(alloc)?,
         })
     }
 
@@ -93,20 +171,15 @@ impl AnimationLists {
     {
         Ok(AnimationLists {
             names: copy_names(alloc, self.names.as_slice())?,
-            durations: self.durations.copy(alloc)?,
-            delays: self.delays.copy(alloc)?,
-            easings: self.easings.copy(alloc)?,
-            counts: self.counts.copy(alloc)?,
-            directions: self.directions.copy(alloc)?,
-            fills: self.fills.copy(alloc)?,
-            states: self.states.copy(alloc)?,
+            timing: self.timing.copy(alloc)?,
+            playing: self.playing.copy(alloc)?,
         })
     }
 
     /// The items of `animation-name`.
     pub fn names(&self) -> &[Option<Name>]
         ensures value { result.now ≡ self.now.names }
-        ensures bounds { 0 < length result.now }
+        ensures bounds { IsListOf IsNameItem result.now }
     {
         self.names.as_slice()
     }
@@ -116,7 +189,7 @@ impl AnimationLists {
         ensures value { result.now ≡ self.now.durations }
         ensures bounds { IsListOf IsDuration result.now }
     {
-        self.durations.as_slice()
+        self.timing.durations.as_slice()
     }
 
     /// The items of `animation-delay`.
@@ -124,7 +197,7 @@ impl AnimationLists {
         ensures value { result.now ≡ self.now.delays }
         ensures bounds { IsListOf IsDelay result.now }
     {
-        self.delays.as_slice()
+        self.timing.delays.as_slice()
     }
 
     /// The items of `animation-timing-function`.
@@ -132,7 +205,7 @@ impl AnimationLists {
         ensures value { result.now ≡ self.now.easings }
         ensures bounds { IsListOf IsEasing result.now }
     {
-        self.easings.as_slice()
+        self.timing.easings.as_slice()
     }
 
     /// The items of `animation-iteration-count`.
@@ -140,30 +213,38 @@ impl AnimationLists {
         ensures value { result.now ≡ self.now.counts }
         ensures bounds { IsListOf IsCount result.now }
     {
-        self.counts.as_slice()
+        self.timing.counts.as_slice()
     }
 
     /// The items of `animation-direction`.
     pub fn directions(&self) -> &[Direction]
         ensures value { result.now ≡ self.now.directions }
-        ensures bounds { 0 < length result.now }
+        ensures bounds { IsListOf IsAny result.now }
     {
-        self.directions.as_slice()
+        self.playing.directions.as_slice()
     }
 
     /// The items of `animation-fill-mode`.
     pub fn fills(&self) -> &[Fill]
         ensures value { result.now ≡ self.now.fills }
-        ensures bounds { 0 < length result.now }
+        ensures bounds { IsListOf IsAny result.now }
     {
-        self.fills.as_slice()
+        self.playing.fills.as_slice()
     }
 
     /// The items of `animation-play-state`.
     pub fn states(&self) -> &[PlayState]
         ensures value { result.now ≡ self.now.states }
-        ensures bounds { 0 < length result.now }
+        ensures bounds { IsListOf IsAny result.now }
     {
-        self.states.as_slice()
+        self.playing.states.as_slice()
+    }
+}
+
+impl Same for AnimationLists {
+    fn is_same(&self, other: &AnimationLists) -> bool {
+        self.names.is_same(&other.names)
+            && self.timing.is_same(&other.timing)
+            && self.playing.is_same(&other.playing)
     }
 }

@@ -5,8 +5,8 @@ use crate::easing::Easing;
 use crate::property::PropertyId;
 use fix_num::Bill;
 
-/// What a keyframes rule gives one property at one offset (CSS Animations 1, section 3).
-#[derive(Clone, Copy, Debug, PartialEq, Eq)]
+/// What a keyframes rule gives one property at one offset (CSS Animations 1, "Keyframes").
+#[derive(Clone, Copy)]
 pub struct Frame {
     /// 0 to 10^9.
     pub offset: Bill,

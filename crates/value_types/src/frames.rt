@@ -4,12 +4,13 @@ ghost use Rattle.std.specs.Prelude.{◌≡◌, IfOk};
 ghost use Rattle.value_types.specs.Keyframes.{IsFrames};
 
 use crate::frame::Frame;
+use crate::same::{Same, are_same};
 use std::alloc::{AllocError, Global};
 use std::marker::Model;
 
 /// The frames of a keyframes rule, strictly ascending by offset and then by property number, which contracts
 /// see as their list. Each keeps its bounds, and none is of `display`.
-#[derive(Debug, Drop)]
+#[derive(Drop)]
 pub struct Frames {
     frames: Vec<Frame>,
 }
@@ -50,5 +51,11 @@ impl Frames {
         Ok(Frames {
             frames: Vec::from_slice(alloc, self.frames.as_slice())?,
         })
+    }
+}
+
+impl Same for Frames {
+    fn is_same(&self, other: &Frames) -> bool {
+        are_same(self.as_slice(), other.as_slice())
     }
 }

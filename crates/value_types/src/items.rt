@@ -2,6 +2,7 @@
 
 ghost use Rattle.std.specs.Prelude.{◌≡◌, [], ◌∷◌, ◌++◌, length, slice_get, option_copied, IfOk, OnOk, OnErr};
 
+use crate::same::{Same, are_same};
 use std::alloc::{AllocError, Global};
 use std::marker::Model;
 
@@ -70,7 +71,7 @@ impl<T> Items<T> {
 }
 
 impl<T: Drop> Items<T> {
-    /// Puts an item behind the last; where memory runs out the list stays as it was.
+    /// Puts an item after the last; where memory runs out the list stays as it was.
     pub fn push(&mut self, item: T) -> Result<(), AllocError>
         ensures ok { OnOk result (self.new ≡ self.old ++ item ∷ []) }
         ensures err { OnErr result (self.new ≡ self.old) }
@@ -97,5 +98,11 @@ impl<T: Copy> Items<T> {
         Ok(Items {
             items: Vec::from_slice(alloc, self.as_slice())?,
         })
+    }
+}
+
+impl<T: Same> Same for Items<T> {
+    fn is_same(&self, other: &Items<T>) -> bool {
+        are_same(self.as_slice(), other.as_slice())
     }
 }

@@ -5,6 +5,7 @@ ghost use Rattle.std.specs.Prelude.{◌≡◌, IfOk};
 use crate::easing::Easing;
 use crate::items::Items;
 use crate::name::{Name, copy_names};
+use crate::same::Same;
 use crate::shorthand::PropertyItem;
 use crate::timing::{Count, Direction, Fill, PlayState};
 use fix_num::Micros;
@@ -28,7 +29,8 @@ pub enum ListName {
     AnimationPlayState,
 }
 
-/// What a declaration gives a timing list: a keyword of the cascade, or its items.
+/// What a declaration gives a timing list: a keyword of the cascade, or its items. No list is inherited, so
+/// `Inherit` is a value of none.
 #[derive(Debug, Drop)]
 pub enum ListValue {
     Inherit,
@@ -61,5 +63,24 @@ impl ListValue {
             ListValue::Fills(list) => ListValue::Fills(list.copy(alloc)?),
             ListValue::States(list) => ListValue::States(list.copy(alloc)?),
         })
+    }
+}
+
+impl Same for ListValue {
+    fn is_same(&self, other: &ListValue) -> bool {
+        match (self, other) {
+            (ListValue::Inherit, ListValue::Inherit) | (ListValue::Initial, ListValue::Initial) => {
+                true
+            }
+            (ListValue::Properties(xs), ListValue::Properties(ys)) => xs.is_same(ys),
+            (ListValue::Times(xs), ListValue::Times(ys)) => xs.is_same(ys),
+            (ListValue::Easings(xs), ListValue::Easings(ys)) => xs.is_same(ys),
+            (ListValue::Names(xs), ListValue::Names(ys)) => xs.is_same(ys),
+            (ListValue::Counts(xs), ListValue::Counts(ys)) => xs.is_same(ys),
+            (ListValue::Directions(xs), ListValue::Directions(ys)) => xs.is_same(ys),
+            (ListValue::Fills(xs), ListValue::Fills(ys)) => xs.is_same(ys),
+            (ListValue::States(xs), ListValue::States(ys)) => xs.is_same(ys),
+            _ => false,
+        }
     }
 }

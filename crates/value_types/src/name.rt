@@ -1,30 +1,37 @@
 //! Names that a user gives.
 
-ghost use Rattle.std.specs.Prelude.{◌≡◌, ◌↔◌, [], IfOk, IsTrue};
+ghost use Rattle.std.specs.Prelude.{◌≡◌, IfOk, IsTrue};
+ghost use Rattle.css_token.specs.Productions.{IsIdentifier};
+ghost use Rattle.value_types.specs.Names.{is_reserved, underscore};
 
 use crate::items::Items;
 use std::alloc::{AllocError, Global};
 use std::marker::Model;
 
-/// A name, as of a keyframes rule: the bytes of an identifier (CSS Values 4, section 4.2), which contracts
-/// see as their list. Names compare exactly.
+/// A name, as of a keyframes rule: an identifier (CSS Values 4, "Author-defined Identifiers: the
+/// <custom-ident> type"), which contracts see as the list of its bytes. Names compare exactly.
 #[derive(Debug, Drop)]
 pub struct Name {
+    /// The bytes; none stand for `_`.
     bytes: Vec<u8>,
 }
 
 impl Model for Name {
     ghost use Rattle.std.specs.Prelude.{List, ℕ};
+    ghost use Rattle.css_token.specs.Productions.{IsIdentifier};
+    ghost use Rattle.value_types.specs.Names.{name_bytes};
 
     ghost Value = { List ℕ };
 
-    ghost view = { λ n. n.bytes.items };
+    ghost view = { λ n. name_bytes n.bytes.items };
+
+    ghost invariant = { λ n. IsIdentifier (name_bytes n.bytes.items) };
 }
 
 impl Name {
-    /// The name of no bytes. Takes no memory.
-    pub fn empty(alloc: Global) -> Name
-        ensures { result ≡ [] }
+    /// The name `_`, which takes no memory: it fills unused places of short lists.
+    pub fn underscore(alloc: Global) -> Name
+        ensures { result ≡ underscore }
     {
         Name {
             bytes: Vec::new(alloc),
@@ -33,6 +40,7 @@ impl Name {
 
     /// The name of these bytes.
     pub fn from_bytes(alloc: Global, bytes: &[u8]) -> Result<Name, AllocError>
+        requires { IsIdentifier bytes.now }
         ensures { IfOk result (λ n. n ≡ bytes.now) }
     {
         Ok(Name {
@@ -42,24 +50,32 @@ impl Name {
 
     /// The bytes.
     pub fn as_bytes(&self) -> &[u8]
-        ensures { result.now ≡ self.now }
+        ensures value { result.now ≡ self.now }
+        ensures identifier { IsIdentifier result.now }
     {
-        self.bytes.as_slice()
+        if self.bytes.is_empty() {
+            b"_"
+        } else {
+            self.bytes.as_slice()
+        }
     }
 
-    /// A name of the same bytes.
+    /// The same name again.
     pub fn copy(&self, alloc: Global) -> Result<Name, AllocError>
         ensures { IfOk result (λ n. n ≡ self.now) }
     {
         Name::from_bytes(alloc, self.as_bytes())
     }
+}
 
-    /// Whether the two names are the same, byte for byte.
-    pub fn is_same(&self, other: &Name) -> bool
-        ensures { IsTrue result ↔ (self.now ≡ other.now) }
-    {
-        self.as_bytes() == other.as_bytes()
-    }
+/// Whether the word is no name of an animation: `none` and the keywords of the cascade, in any ASCII case.
+pub fn is_reserved(word: &[u8]) -> bool
+    ensures { result ≡ is_reserved word.now }
+{
+    word.eq_ignore_ascii_case(b"none")
+        || word.eq_ignore_ascii_case(b"initial")
+        || word.eq_ignore_ascii_case(b"inherit")
+        || word.eq_ignore_ascii_case(b"unset")
 }
 
 fn copy_name(alloc: Global, name: &Option<Name>) -> Result<Option<Name>, AllocError>

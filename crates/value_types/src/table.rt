@@ -4,6 +4,7 @@ ghost use Rattle.std.specs.Prelude.{◌≡◌, pos};
 ghost use Rattle.value_types.specs.Table.{initial_value, is_inherited, keeps_percent, range_of, takes};
 
 use crate::property::PropertyId;
+use crate::range::ValueRange;
 use crate::value::{Display, Value, Visibility};
 use fix_num::Fix;
 
@@ -23,15 +24,6 @@ pub enum ValueKind {
     Absent,
     Visibility,
     Display,
-}
-
-/// The range of a property's numbers; `Nothing` where none is named.
-#[derive(Clone, Copy, Debug, PartialEq, Eq)]
-pub enum ValueRange {
-    All,
-    NotNegative,
-    ZeroToOne,
-    Nothing,
 }
 
 /// Whether the property's row names values of this kind.
@@ -59,7 +51,7 @@ pub fn takes(p: PropertyId, kind: ValueKind) -> bool
     }
 }
 
-/// Whether an element takes its parent's value where no declaration gives one (CSS Cascade 5, section 7.2).
+/// Whether an element takes its parent's value where no declaration gives one (CSS Cascade 5, "Inheritance").
 pub fn is_inherited(p: PropertyId) -> bool
     ensures { result ≡ is_inherited p }
 {
@@ -72,12 +64,16 @@ pub fn is_inherited(p: PropertyId) -> bool
     )
 }
 
-/// Whether a percent is kept in the computed value: that of `font-size` is of the parent's and that of
-/// `opacity` a number.
+/// Whether a percent stays one in the computed value: that of `font-size` is of the parent's and that of
+/// `opacity` is a number.
 pub fn keeps_percent(p: PropertyId) -> bool
     ensures { result ≡ keeps_percent p }
 {
-    p != PropertyId::FontSize && p != PropertyId::Opacity && takes(p, ValueKind::Percent)
+    match p {
+        PropertyId::FontSize | PropertyId::Opacity => false,
+        PropertyId::Translate => true,
+        _ => takes(p, ValueKind::Percent),
+    }
 }
 
 /// The range of the property's numbers.
@@ -106,8 +102,8 @@ pub fn initial_value(p: PropertyId) -> Value
     ensures { result ≡ initial_value p }
 {
     match p {
-        PropertyId::BackgroundColor => black(0),
-        PropertyId::Color => black(1_000_000),
+        PropertyId::BackgroundColor => black(Fix(0)),
+        PropertyId::Color => black(Fix::ONE),
         PropertyId::Display => Value::Display(Display::Inline),
         PropertyId::FontSize => pixels(16_000_000),
         PropertyId::LetterSpacing
@@ -119,21 +115,21 @@ pub fn initial_value(p: PropertyId) -> Value
         | PropertyId::PaddingLeft
         | PropertyId::PaddingRight
         | PropertyId::PaddingTop => pixels(0),
-        PropertyId::Opacity => Value::Number(Fix(1_000_000)),
+        PropertyId::Opacity => Value::Number(Fix::ONE),
         PropertyId::Rotate | PropertyId::Translate => Value::Absent,
         PropertyId::Visibility => Value::Visible(Visibility::Visible),
         _ => Value::Auto,
     }
 }
 
-fn black(alpha: i64) -> Value
-    ensures { result ≡ Value.Color 0 0 0 (record { 0 = alpha }) }
+fn black(alpha: Fix) -> Value
+    ensures { result ≡ Value.Color 0 0 0 alpha }
 {
     Value::Color {
         r: 0,
         g: 0,
         b: 0,
-        a: Fix(alpha),
+        a: alpha,
     }
 }
 

@@ -1,20 +1,22 @@
 //! The lists that time transitions.
 
-ghost use Rattle.std.specs.Prelude.{◌≡◌, IfOk};
+ghost use Rattle.std.specs.Prelude.{◌≡◌, ◌≤◌, length, IfOk};
 ghost use Rattle.value_types.specs.Timing.{IsDelay, IsDuration, IsEasing};
 ghost use Rattle.value_types.specs.TimingLists.{IsListOf, initial_transitions, transition_values};
 
 use crate::easing::Easing;
 use crate::items::Items;
+use crate::limits::MAX_ITEMS;
+use crate::same::Same;
 use crate::shorthand::PropertyItem;
 use fix_num::Micros;
 use std::alloc::{AllocError, Global};
 use std::marker::Model;
 
-/// The four lists that time the transitions of an element (CSS Transitions 1, section 2). Durations are 0 to
-/// 10^15 microseconds, delays within 10^15, easings within their bounds; only `items` may be empty, and is so
-/// for the keyword `none`.
-#[derive(Debug, Drop)]
+/// The four lists that time the transitions of an element (CSS Transitions 1, "Transitions"). Durations are 0 to
+/// 10^15 microseconds, delays within 10^15, easings within their bounds. Each list has at most 32 items; only `items` may
+/// be empty, and is so for the keyword `none`.
+#[derive(Drop)]
 pub struct TransitionLists {
     items: Items<PropertyItem>,
     durations: Items<Micros>,
@@ -40,6 +42,7 @@ impl TransitionLists {
         delays: Items<Micros>,
         easings: Items<Easing>,
     ) -> Self
+        requires items { length items ≤ MAX_ITEMS }
         requires durations { IsListOf IsDuration durations }
         requires delays { IsListOf IsDelay delays }
         requires easings { IsListOf IsEasing easings }
@@ -79,7 +82,8 @@ impl TransitionLists {
 
     /// The items of `transition-property`.
     pub fn items(&self) -> &[PropertyItem]
-        ensures { result.now ≡ self.now.items }
+        ensures value { result.now ≡ self.now.items }
+        ensures bounds { length result.now ≤ MAX_ITEMS }
     {
         self.items.as_slice()
     }
@@ -106,5 +110,14 @@ impl TransitionLists {
         ensures bounds { IsListOf IsEasing result.now }
     {
         self.easings.as_slice()
+    }
+}
+
+impl Same for TransitionLists {
+    fn is_same(&self, other: &TransitionLists) -> bool {
+        self.items.is_same(&other.items)
+            && self.durations.is_same(&other.durations)
+            && self.delays.is_same(&other.delays)
+            && self.easings.is_same(&other.easings)
     }
 }

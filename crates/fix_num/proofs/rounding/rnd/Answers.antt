@@ -3,12 +3,12 @@ use Rattle.std.specs.Prelude.{pos, ◌*ℤ◌, ◌+ℤ◌}
 use Rattle.std.specs.Int.{w128, cast_signed, cast_unsigned}
 use Rattle.std.proofs.lemmas.Int.{to_z-of_z}
 use mir.Val.{SFits}
-use Rattle.fix_num.specs.Rounding.{rounded}
+use Rattle.fix_num.specs.Rounding.{rounded_quotient}
 use Rattle.fix_num.proofs.RoundingLemmas.{size_of_rounded}
 use Rattle.fix_num.proofs.rounding.rnd.Goals as goal
 
-value : (c : goal.After-div_euclid) → c.div_euclid.result ≡ rounded c.args.a c.args.b
-unfolding rounded
+value : (c : goal.After-div_euclid) → c.div_euclid.result ≡ rounded_quotient c.args.a c.args.b
+unfolding rounded_quotient
 value c =
     let fits_a : SFits w128 c.args.a = c.ranges.a in
     let fits_b : SFits w128 c.args.b = c.ranges.b in

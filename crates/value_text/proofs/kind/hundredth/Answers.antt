@@ -3,15 +3,15 @@ use Rattle.std.specs.Prelude.{◌*ℤ◌, ◌+ℤ◌}
 use Rattle.std.specs.Int.{w128}
 use Rattle.std.proofs.lemmas.Int.{fits_signed_from_abs, ints, to_z-of_z}
 use mir.Val.{SFits}
-use Rattle.fix_num.specs.Rounding.{rounded}
+use Rattle.fix_num.specs.Rounding.{rounded_quotient}
 use Rattle.fix_num.proofs.RoundingLemmas.{floor_is}
 use Rattle.value_text.proofs.kind.hundredth.Goals as goal
 
-smaller : (a : ℤ) → unsigned_abs a ≤ 2 ^ 63 → unsigned_abs (rounded a (pos 100)) < 2 ^ 63
-unfolding rounded
+smaller : (a : ℤ) → unsigned_abs a ≤ 2 ^ 63 → unsigned_abs (rounded_quotient a (pos 100)) < 2 ^ 63
+unfolding rounded_quotient
 smaller a h = let floor = floor_is ((pos 2 *ℤ a) +ℤ pos 100) 200 (omega arith) in omega (arith, ints, floor.0, floor.1)
 
-rounds : (c : goal.After-rnd) → c.rnd.result ≡ rounded c.args.n.0 (pos 100)
+rounds : (c : goal.After-rnd) → c.rnd.result ≡ rounded_quotient c.args.n.0 (pos 100)
 rounds c =
     let n : SFits w64 c.args.n.0 = search rules in
     let wide : SFits w128 c.args.n.0 = search rules in
