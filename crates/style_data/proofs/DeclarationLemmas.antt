@@ -2,15 +2,18 @@
 use Rattle.std.proofs.Common.{◌≡◌, Bor, ℕ, suc, refl, ap, subst, arith, rules}
 use Rattle.std.specs.Prelude.{◌==◌, nat_eq, Bool, List, ◌∷◌, [], All, true, false, cond, find, map, option_map, Option, None, Some, IfSome, option_copied, length, insert, Result, Ok, Err, OnOk}
 use Rattle.std.specs.Bool.{OnTrue}
+use Rattle.value_types.specs.ListValues.{IsListValueFor}
 use Rattle.value_types.specs.Properties.{all_properties}
+use Rattle.value_types.specs.Validity.{IsDeclaredFor}
 use Rattle.value_types.specs.declared.declared.Declared.{Declared}
 use Rattle.value_types.specs.declared.list_value.ListName.{ListName}
 use Rattle.value_types.specs.declared.list_value.ListValue.{ListValue}
 use Rattle.value_types.specs.declared.property.PropertyId.{PropertyId}
 use Rattle.style_data.specs.ByProperty.{kept_for}
-use Rattle.style_data.specs.KeptDeclarations.{ListDeclarations, PropertyDeclarations, declared_by, list_winners_in, winners_in}
-use Rattle.style_data.specs.Winners.{all_lists, declarations, place_of, kept_for_list, list_winners_of, no_declarations, no_list_winners, no_winners, winners_of, with_declaration, with_list_declaration}
+use Rattle.style_data.specs.KeptDeclarations.{AreKept, ListDeclarations, PropertyDeclarations, declared_by, list_winners_in, winners_in}
+use Rattle.style_data.specs.Winners.{AreDeclarations, all_lists, declarations, place_of, kept_for_list, list_winner_of, list_winners_of, no_declarations, no_list_winners, no_winners, winners_of, with_declaration, with_list_declaration}
 use Rattle.style_data.proofs.EveryProperty.{at_list, at_property, put_list, put_property}
+use Rattle.style_data.proofs.Lookups.{found_has}
 use Rattle.style_data.proofs.Tables.{same_list}
 
 pub winners_of-declared_by : (i n : PropertyDeclarations) (il nl : ListDeclarations) (p : PropertyId) → winners_of (declared_by i n il nl) p ≡ winners_in i n p
@@ -86,3 +89,29 @@ OnTrue-then false f h = tt
 pub IfSome-copied : {A : Type 0} (o : Option (Bor A)) (P : A → Type 0) → IfSome (option_copied o) P → IfSome o (λ b. P b.now)
 IfSome-copied None P h = tt
 IfSome-copied (Some b) P h = h
+
+pub are_declarations : (i n : PropertyDeclarations) (il nl : ListDeclarations) → AreKept i n il nl → AreDeclarations (declared_by i n il nl)
+unfolding declared_by
+are_declarations i n il nl kept = record {
+  count = refl;
+  list_count = refl;
+  each = λ p. rw (winners_of-declared_by i n il nl p) record {
+    important = found_has IsDeclaredFor i p (kept_for p i) refl kept.important;
+    normal = found_has IsDeclaredFor n p (kept_for p n) refl kept.normal;
+  };
+  each_list = λ name important. elim important as (λ b. IfSome (list_winner_of (declared_by i n il nl) name b) (IsListValueFor name)) [
+    | true ↦ rw (list_winners_of-declared_by i n il nl name) (kept_for_list-has IsListValueFor il name kept.important_lists)
+    | false ↦ rw (list_winners_of-declared_by i n il nl name) (kept_for_list-has IsListValueFor nl name kept.normal_lists)
+  ];
+}
+
+pub no_declarations_are : AreDeclarations no_declarations
+no_declarations_are = record {
+  count = refl;
+  list_count = refl;
+  each = λ p. rw (at_property (λ q. no_winners) no_winners p) record { important = tt; normal = tt };
+  each_list = λ name important. elim important as (λ b. IfSome (list_winner_of no_declarations name b) (IsListValueFor name)) [
+    | true ↦ rw (at_list (λ q. no_list_winners) no_list_winners name) tt
+    | false ↦ rw (at_list (λ q. no_list_winners) no_list_winners name) tt
+  ];
+}

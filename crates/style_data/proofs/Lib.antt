@@ -1,3 +1,4 @@
+pub mod ByIndex
 pub mod Changes
 pub mod DeclarationLemmas
 pub mod EveryProperty

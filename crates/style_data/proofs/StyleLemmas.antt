@@ -9,7 +9,8 @@ use Rattle.value_types.specs.declared.property.PropertyId.{PropertyId}
 use Rattle.value_types.specs.declared.value.Value.{Value}
 use Rattle.value_types.specs.declared.value.Value.TheVariants.{Auto}
 use Rattle.style_data.specs.ByProperty.{kept_for}
-use Rattle.style_data.specs.Styles.{AreGiven, value_at, values_with}
+use Rattle.style_data.specs.Styles.{AreGiven, AreValid, value_at, values_with}
+use Rattle.style_data.proofs.Lookups.{found_has}
 use Rattle.style_data.proofs.Tables.{number_small, same_property}
 
 pub length-values_with : (vs : List Value) (given : List (PropertyId × Value)) → length (values_with vs given) ≡ length vs
@@ -47,3 +48,10 @@ values_with-append vs (g ∷ above) below = ap (λ values. set values (number_of
 pub unwrap_has : {A : Type 0} (P : A → Type 0) (o : Option A) (x : A) → IfSome o P → P x → P (unwrap_or o x)
 unwrap_has P None x some none = none
 unwrap_has P (Some y) x some none = some
+
+-- valid values with valid ones given on top of them
+pub AreValid-values_with : (vs : List Value) (given : List (PropertyId × Value)) → AreValid vs → AreGiven given → AreValid (values_with vs given)
+AreValid-values_with vs given are valid = record {
+  count = length-values_with vs given ∙ are.count;
+  each = λ p. rw (value_at-values_with vs given p are.count) (unwrap_has (IsValid p) (kept_for p given) (value_at vs p) (found_has IsValid given p (kept_for p given) refl valid) (are.each p));
+}

@@ -3,7 +3,7 @@
 use Rattle.std.specs.Prelude.{List, [], ◌∷◌, map, Option, None, Some, option_map}
 use Rattle.std.specs.Option.{option_or}
 use Rattle.fix_num.specs.declared.units.Fix.{Fix}
-use Rattle.value_print.specs.Absolute.{absolute_of}
+use Rattle.computed_value.specs.Absolute.{absolute_of}
 use Rattle.value_types.specs.Properties.{all_properties}
 use Rattle.value_types.specs.Table.{fix, initial_value}
 use Rattle.value_types.specs.TimingLists.{AnimationValues, TransitionValues, animation_values, initial_animations, initial_transitions, transition_values}

@@ -1,7 +1,8 @@
 -- Computed styles, and what of them is inherited (CSS Cascade 5, sections 4.4 and 7.2).
-use Rattle.std.specs.Prelude.{◌≡◌, ◌^◌, pos, ◌≤ℤ◌, List, [], ◌∷◌, map, set, length, slice_index_or, All}
+use Rattle.std.specs.Prelude.{◌≡◌, List, [], ◌∷◌, map, set, length, slice_index_or, All}
 use Rattle.fix_num.specs.declared.units.Fix.{Fix}
 use Rattle.value_types.specs.Properties.{all_properties, number_of}
+use Rattle.value_types.specs.Ranges.{IsSize}
 use Rattle.value_types.specs.Table.{fix, initial_value}
 use Rattle.value_types.specs.TimingLists.{AnimationValues, TransitionValues, initial_animations, initial_transitions}
 use Rattle.value_types.specs.Validity.{IsValid}
@@ -57,11 +58,6 @@ AreGiven given = All (λ g. IsValid g.0 g.1) given
 
 -- ---- inherited values
 
--- a size in millionths of a pixel
-pub record IsSize (s : Fix) : Type 0 where
-  pub low : pos 0 ≤ℤ s.0
-  pub high : s.0 ≤ℤ pos (10 ^ 12)
-
 -- the pixels of a length
 abbrev pub pixels_of : Value → Fix
 pixels_of (Length px pct) = px
@@ -89,6 +85,6 @@ inherited_of s root_size = record {
   root_size = root_size;
 }
 
--- what the root inherits: the initial values, with a root font size of 16px
+-- what the root inherits: the initial values, with the initial font size for the root's
 abbrev pub initial_inherited : InheritedValues
-initial_inherited = inherited_of initial_style (fix 16000000)
+initial_inherited = inherited_of initial_style (font_size_of initial_style)

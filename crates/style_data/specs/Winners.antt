@@ -1,5 +1,5 @@
 -- The winning declarations of an element (CSS Cascade 5, section 6).
-use Rattle.std.specs.Prelude.{ℕ, nat_eq, Bool, true, false, List, [], ◌∷◌, map, set, slice_index_or, find, IfSome, Option, None, Some, option_map, if◌then◌else◌}
+use Rattle.std.specs.Prelude.{◌≡◌, ℕ, nat_eq, Bool, true, false, List, [], ◌∷◌, map, set, length, slice_index_or, find, IfSome, Option, None, Some, option_map, if◌then◌else◌}
 use Rattle.value_types.specs.ListValues.{IsListValueFor}
 use Rattle.value_types.specs.Properties.{all_properties, number_of}
 use Rattle.value_types.specs.Validity.{IsDeclaredFor}
@@ -66,6 +66,13 @@ list_winner_of d name important = (if important then (list_winners_of d name).im
 pub record AreWinnersFor (p : PropertyId) (w : Winners) : Type 0 where
   pub important : IfSome w.important (IsDeclaredFor p)
   pub normal : IfSome w.normal (IsDeclaredFor p)
+
+-- of each property and of each list, what is declared is a declared value of it
+pub record AreDeclarations (d : Declarations) : Type 0 where
+  pub count : length d.properties ≡ 24
+  pub list_count : length d.lists ≡ 12
+  pub each : (p : PropertyId) → AreWinnersFor p (winners_of d p)
+  pub each_list : (name : ListName) (important : Bool) → IfSome (list_winner_of d name important) (IsListValueFor name)
 
 -- nothing is declared
 abbrev pub no_declarations : Declarations

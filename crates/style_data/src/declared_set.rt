@@ -1,17 +1,17 @@
 //! The winning declarations of an element.
 
-ghost use Rattle.std.specs.Prelude.{◌≡◌, [], ◌∷◌, IfOk, IfSome, OnErr, OnOk, option_copied};
+ghost use Rattle.std.specs.Prelude.{◌≡◌, ◌↔◌, [], ◌∷◌, IsTrue, IfOk, IfSome, OnErr, OnOk, option_copied};
 ghost use Rattle.std.specs.Bool.{OnTrue};
 ghost use Rattle.value_types.specs.ListValues.{IsListValueFor};
 ghost use Rattle.value_types.specs.Validity.{IsDeclaredFor};
 ghost use Rattle.style_data.specs.ByProperty.{kept_for};
-ghost use Rattle.style_data.specs.Winners.{AreWinnersFor, kept_for_list, list_winner_of, no_declarations, place_of, winners_of, with_declaration, with_list_declaration};
+ghost use Rattle.style_data.specs.Winners.{AreDeclarations, AreWinnersFor, kept_for_list, list_winner_of, list_winners_of, no_declarations, place_of, winners_of, with_declaration, with_list_declaration};
 
 use crate::shared::Shared;
 use crate::winners::Winners;
 use std::alloc::{AllocError, Global};
 use std::marker::Model;
-use value_types::{Declared, ListName, ListValue, PropertyId};
+use value_types::{Declared, ListName, ListValue, PropertyId, Same};
 
 /// Winning declarations as they are collected: begin with none, put those that win, and finish. Contracts see
 /// them as the winners of each property and of each timing list.
@@ -115,7 +115,7 @@ impl Winning {
 
     fn winners(&self, p: PropertyId) -> Winners
         ensures value { result ≡ winners_of self.now p }
-        ensures bounds { AreWinnersFor p result }
+        ensures bounds { AreDeclarations self.now }
     {
         Winners {
             important: declared_for(self.important.as_slice(), p),
@@ -126,6 +126,7 @@ impl Winning {
     fn list(&self, name: ListName, important: bool) -> Option<&ListValue>
         ensures value { option_copied result ≡ list_winner_of self.now name important }
         ensures bounds { IfSome result (λ v. IsListValueFor name v.now) }
+        ensures all { AreDeclarations self.now }
     {
         if important {
             list_for(self.important_lists.as_slice(), name)
@@ -165,6 +166,7 @@ impl DeclaredSet {
     pub fn winners(&self, p: PropertyId) -> Winners
         ensures value { result ≡ winners_of self.now p }
         ensures bounds { AreWinnersFor p result }
+        ensures all { AreDeclarations self.now }
     {
         match &self.set {
             None => Winners {
@@ -180,6 +182,7 @@ impl DeclaredSet {
     pub fn list(&self, name: ListName, important: bool) -> Option<&ListValue>
         ensures value { option_copied result ≡ list_winner_of self.now name important }
         ensures bounds { IfSome result (λ v. IsListValueFor name v.now) }
+        ensures all { AreDeclarations self.now }
     {
         match &self.set {
             None => None,
@@ -213,6 +216,75 @@ fn has_none<T>(list: &Vec<T>) -> bool
     ensures { OnTrue result (list.now.items ≡ []) }
 {
     list.is_empty()
+}
+
+/// The timing lists, by their places.
+const LISTS: [ListName; 12] = [
+    ListName::TransitionProperty,
+    ListName::TransitionDuration,
+    ListName::TransitionDelay,
+    ListName::TransitionEasing,
+    ListName::AnimationName,
+    ListName::AnimationDuration,
+    ListName::AnimationDelay,
+    ListName::AnimationEasing,
+    ListName::AnimationCount,
+    ListName::AnimationDirection,
+    ListName::AnimationFill,
+    ListName::AnimationPlayState,
+];
+
+impl Same for DeclaredSet {
+    fn is_same(&self, other: &DeclaredSet) -> bool {
+        have_same_properties(self, other) && have_same_lists(self, other)
+    }
+}
+
+fn have_same_properties(a: &DeclaredSet, b: &DeclaredSet) -> bool
+    ensures { IsTrue result ↔ (a.now.properties ≡ b.now.properties) }
+{
+    for p in &PropertyId::ALL {
+        if !have_same_winners(a, b, *p) {
+            return false;
+        }
+    }
+    true
+}
+
+fn have_same_winners(a: &DeclaredSet, b: &DeclaredSet, p: PropertyId) -> bool
+    ensures same { IsTrue result ↔ (winners_of a.now p ≡ winners_of b.now p) }
+    ensures all { AreDeclarations a.now × AreDeclarations b.now }
+{
+    a.winners(p).is_same(&b.winners(p))
+}
+
+fn have_same_lists(a: &DeclaredSet, b: &DeclaredSet) -> bool
+    ensures { IsTrue result ↔ (a.now.lists ≡ b.now.lists) }
+{
+    for name in &LISTS {
+        if !have_same_list(a, b, *name) {
+            return false;
+        }
+    }
+    true
+}
+
+fn have_same_list(a: &DeclaredSet, b: &DeclaredSet, name: ListName) -> bool
+    ensures same { IsTrue result ↔ (list_winners_of a.now name ≡ list_winners_of b.now name) }
+    ensures all { AreDeclarations a.now × AreDeclarations b.now }
+{
+    is_same_list(a.list(name, true), b.list(name, true))
+        && is_same_list(a.list(name, false), b.list(name, false))
+}
+
+fn is_same_list(a: Option<&ListValue>, b: Option<&ListValue>) -> bool
+    ensures { IsTrue result ↔ (option_copied a.entry ≡ option_copied b.entry) }
+{
+    match (a, b) {
+        (None, None) => true,
+        (Some(a), Some(b)) => a.is_same(b),
+        _ => false,
+    }
 }
 
 fn declared_for(declared: &[(PropertyId, Declared)], p: PropertyId) -> Option<Declared>

@@ -1,16 +1,17 @@
 //! The effects of an element.
 
-ghost use Rattle.std.specs.Prelude.{◌≡◌, ◌<◌, IfOk, OnErr, OnOk, length, option_copied, unwrap_or};
-ghost use Rattle.std.specs.Bool.{OnTrue};
+ghost use Rattle.std.specs.Prelude.{◌≡◌, ◌<◌, ◌↔◌, IsTrue, IfOk, OnErr, OnOk, length, option_copied, unwrap_or};
 ghost use Rattle.style_data.specs.Entries.{AreAscending, animation_seen_at, effect_lists, no_effects};
 ghost use Rattle.style_data.specs.TransitionSets.{AreTransitions, with_seen};
 
 use crate::animation::Animation;
 use crate::gone::Gone;
+use crate::same::are_same;
 use crate::transition::Phase;
 use crate::transitions::Transitions;
 use std::alloc::{AllocError, Global};
 use std::marker::Model;
+use value_types::Same;
 
 /// The transitions and animations of an element, the animations ascending by their places, and the cancelled
 /// ones of both, in the order of their cancellation. Contracts see them as these lists.
@@ -110,7 +111,7 @@ impl Effects {
 
     /// Whether there is none at all.
     pub fn is_empty(&self) -> bool
-        ensures { OnTrue result (self.now ≡ no_effects) }
+        ensures { IsTrue result ↔ (self.now ≡ no_effects) }
     {
         self.transitions.is_empty() && self.animations.is_empty() && self.gone.is_empty()
     }
@@ -122,6 +123,25 @@ impl Effects {
         let animations = copy_animations(alloc, self.animations.as_slice())?;
         let gone = copy_gone(alloc, self.gone.as_slice())?;
         Ok(Effects::new(self.transitions.copy(alloc)?, animations, gone))
+    }
+}
+
+impl Same for Effects {
+    fn is_same(&self, other: &Effects) -> bool {
+        self.transitions.is_same(&other.transitions)
+            && are_same(self.animations.as_slice(), other.animations.as_slice())
+            && are_same(self.gone.as_slice(), other.gone.as_slice())
+    }
+}
+
+impl Same for BoxedEffects {
+    fn is_same(&self, other: &BoxedEffects) -> bool {
+        match (self.get(), other.get()) {
+            (None, None) => true,
+            (Some(a), Some(b)) => a.is_same(b),
+            (Some(a), None) => a.is_empty(),
+            (None, Some(b)) => b.is_empty(),
+        }
     }
 }
 

@@ -1,6 +1,6 @@
 //! Entries.
 
-ghost use Rattle.std.specs.Prelude.{◌≡◌, ◌<◌, IfOk, IfSome, OnErr, OnOk, length, option_copied, unwrap_or};
+ghost use Rattle.std.specs.Prelude.{◌≡◌, ◌<◌, ◌↔◌, IsTrue, IfOk, IfSome, OnErr, OnOk, length, option_copied, unwrap_or};
 ghost use Rattle.style_data.specs.Entries.{AreAscending, animation_seen_at, entry_parts, fresh_entry, no_effects};
 ghost use Rattle.style_data.specs.Kept.{IsCompletedFor, IsKeptFor};
 ghost use Rattle.style_data.specs.TransitionSets.{AreTransitions, completed_of, running_of, with_seen};
@@ -13,7 +13,7 @@ use crate::style::Style;
 use crate::transition::{Completed, Phase, Running};
 use std::alloc::{AllocError, Global};
 use std::marker::Model;
-use value_types::PropertyId;
+use value_types::{PropertyId, Same};
 
 #[derive(Drop)]
 struct Parts {
@@ -242,4 +242,19 @@ impl Entry {
             )?,
         })
     }
+}
+
+impl Same for Entry {
+    fn is_same(&self, other: &Entry) -> bool {
+        have_same_flags(self, other)
+            && self.declared().is_same(other.declared())
+            && self.now().is_same(other.now())
+            && self.parts.effects.is_same(&other.parts.effects)
+    }
+}
+
+fn have_same_flags(a: &Entry, b: &Entry) -> bool
+    ensures { IsTrue result ↔ ((a.now.styled ≡ b.now.styled) × (a.now.rendered ≡ b.now.rendered) × (a.now.settled ≡ b.now.settled)) }
+{
+    a.styled() == b.styled() && a.rendered() == b.rendered() && a.settled() == b.settled()
 }

@@ -15,6 +15,7 @@ mod event;
 mod gone;
 mod inherited;
 mod laws;
+mod same;
 mod sampling;
 mod shared;
 mod style;

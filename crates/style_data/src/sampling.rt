@@ -1,8 +1,8 @@
 //! What animations give the properties of an element.
 
 ghost use Rattle.std.specs.Prelude.{◌≡◌, IfSome};
+ghost use Rattle.value_types.specs.Ranges.{IsSize};
 ghost use Rattle.value_types.specs.Validity.{IsValid};
-ghost use Rattle.style_data.specs.Styles.{IsSize};
 
 use fix_num::Fix;
 use value_types::{PropertyId, Value};

@@ -1,18 +1,21 @@
 //! Computed styles.
 
-ghost use Rattle.std.specs.Prelude.{◌≡◌, IfOk, option_copied, unwrap_or, ◌++◌, length};
+ghost use Rattle.std.specs.Prelude.{◌≡◌, IfOk, option_copied, unwrap_or, ◌++◌, ◌↔◌, IsTrue};
 ghost use Rattle.value_types.specs.TimingLists.{initial_animations, initial_transitions};
+ghost use Rattle.value_types.specs.Ranges.{IsSize};
 ghost use Rattle.value_types.specs.Validity.{IsValid};
 ghost use Rattle.style_data.specs.ByProperty.{kept_for};
-ghost use Rattle.style_data.specs.Styles.{AreGiven, AreValid, IsSize, font_size_of, inherited_of, initial_style, pixels_of, style_of, style_with, value_of};
+ghost use Rattle.style_data.specs.Styles.{AreGiven, AreValid, font_size_of, inherited_of, initial_style, pixels_of, style_of, style_with, value_of};
 
 use crate::inherited::{Inherited, InheritedValues};
+use crate::same::{time_animations_alike, time_transitions_alike};
 use crate::shared::Shared;
 use fix_num::Fix;
+use interpolation::same;
 use smallvec::SmallVec;
 use std::alloc::{AllocError, Global};
 use std::marker::Model;
-use value_types::{AnimationLists, PropertyId, TransitionLists, Value, initial_value};
+use value_types::{AnimationLists, PropertyId, Same, TransitionLists, Value, initial_value};
 
 /// The values and lists of a style, as they are shared. A list that is left out is initial.
 #[derive(Drop)]
@@ -38,7 +41,7 @@ impl Base {
     fn value(&self, p: PropertyId) -> Value
         ensures value { result ≡ value_of self.now p }
         ensures valid { IsValid p result }
-        ensures count { length self.now.values ≡ 24 }
+        ensures all { AreValid self.now.values }
     {
         self.values[p.number() as usize]
     }
@@ -164,6 +167,7 @@ impl Style {
     pub fn value(&self, p: PropertyId) -> Value
         ensures value { result ≡ value_of self.now p }
         ensures valid { IsValid p result }
+        ensures all { AreValid self.now.values }
     {
         given_for(self.given.as_slice(), p).unwrap_or(base_value(&self.base, p))
     }
@@ -226,7 +230,7 @@ impl Style {
 fn base_value(base: &Option<Shared<Base>>, p: PropertyId) -> Value
     ensures value { result ≡ value_of (unwrap_or base.now initial_style) p }
     ensures valid { IsValid p result }
-    ensures count { length (unwrap_or base.now initial_style).values ≡ 24 }
+    ensures all { AreValid (unwrap_or base.now initial_style).values }
 {
     match base {
         None => initial_value(p),
@@ -268,6 +272,32 @@ fn given_for(given: &[Given], p: PropertyId) -> Option<Value>
         .iter()
         .find(|item| item.property.number() == p.number())
         .map(|item| item.value)
+}
+
+impl Same for Style {
+    fn is_same(&self, other: &Style) -> bool {
+        have_same_values(self, other)
+            && time_transitions_alike(self.transitions(), other.transitions())
+            && time_animations_alike(self.animations(), other.animations())
+    }
+}
+
+fn have_same_values(a: &Style, b: &Style) -> bool
+    ensures { IsTrue result ↔ (a.now.values ≡ b.now.values) }
+{
+    for p in &PropertyId::ALL {
+        if !have_same_value(a, b, *p) {
+            return false;
+        }
+    }
+    true
+}
+
+fn have_same_value(a: &Style, b: &Style, p: PropertyId) -> bool
+    ensures same { IsTrue result ↔ (value_of a.now p ≡ value_of b.now p) }
+    ensures all { AreValid a.now.values × AreValid b.now.values }
+{
+    same(a.value(p), b.value(p))
 }
 
 /// The pixels of a length.

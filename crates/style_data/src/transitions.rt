@@ -1,16 +1,16 @@
 //! The transitions of an element.
 
-ghost use Rattle.std.specs.Prelude.{◌≡◌, ◌<◌, ◌⊎◌, IsNone, IfOk, IfSome, None, OnErr, OnOk, Some, length};
-ghost use Rattle.std.specs.Bool.{OnTrue};
+ghost use Rattle.std.specs.Prelude.{◌≡◌, ◌<◌, ◌⊎◌, ◌↔◌, IsNone, IsTrue, IfOk, IfSome, None, OnErr, OnOk, Some, length};
 ghost use Rattle.style_data.specs.ByProperty.{kept_for};
 ghost use Rattle.style_data.specs.TransitionSets.{AreTransitions, ComesLast, completed_of, kept_with, no_transitions, running_of, seen_at, with_seen};
 ghost use Rattle.style_data.specs.Kept.{IsCompletedFor, IsKeptFor};
 
+use crate::same::have_same;
 use crate::transition::{Completed, Phase, Running};
 use smallvec::SmallVec;
 use std::alloc::{AllocError, Global};
 use std::marker::Model;
-use value_types::PropertyId;
+use value_types::{PropertyId, Same};
 
 /// The running and the completed transitions of an element (CSS Transitions 1, section 3), both ascending by
 /// property number. Each is kept for its property, and no property has both.
@@ -95,7 +95,7 @@ impl Transitions {
 
     /// Whether none runs and none has completed.
     pub fn is_empty(&self) -> bool
-        ensures { OnTrue result (self.now ≡ no_transitions) }
+        ensures { IsTrue result ↔ (self.now ≡ no_transitions) }
     {
         self.running.is_empty() && self.completed.is_empty()
     }
@@ -140,6 +140,13 @@ impl Transitions {
             running: SmallVec::from_slice(alloc, self.running.as_slice())?,
             completed: SmallVec::from_slice(alloc, self.completed.as_slice())?,
         })
+    }
+}
+
+impl Same for Transitions {
+    fn is_same(&self, other: &Transitions) -> bool {
+        have_same(self.running.as_slice(), other.running.as_slice())
+            && have_same(self.completed.as_slice(), other.completed.as_slice())
     }
 }
 

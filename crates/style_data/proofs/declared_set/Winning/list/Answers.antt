@@ -1,5 +1,5 @@
 use Rattle.value_types.specs.ListValues.{IsListValueFor}
-use Rattle.style_data.proofs.DeclarationLemmas.{IfSome-copied, kept_for_list-has, list_winners_of-declared_by}
+use Rattle.style_data.proofs.DeclarationLemmas.{IfSome-copied, are_declarations, kept_for_list-has, list_winners_of-declared_by}
 use Rattle.style_data.proofs.declared_set.Winning.list.Goals as goal
 
 pub returns-then-important-clause-value : goal.returns-then-important-clause-value
@@ -21,3 +21,13 @@ pub returns-else-important-clause-bounds : goal.returns-else-important-clause-bo
 returns-else-important-clause-bounds c =
     IfSome-copied c.list_for-else-important.result (IsListValueFor c.args.name)
     (rw (c.list_for-else-important.ensures, c.as_slice-else-important.ensures.value) (kept_for_list-has IsListValueFor c.self.inside.normal_lists.items c.args.name c.self.invariant.normal_lists))
+
+pub returns-then-important-clause-all : goal.returns-then-important-clause-all
+returns-then-important-clause-all c =
+    rw (← c.self.view_is)
+    (are_declarations c.self.inside.important.items c.self.inside.normal.items c.self.inside.important_lists.items c.self.inside.normal_lists.items c.self.invariant)
+
+pub returns-else-important-clause-all : goal.returns-else-important-clause-all
+returns-else-important-clause-all c =
+    rw (← c.self.view_is)
+    (are_declarations c.self.inside.important.items c.self.inside.normal.items c.self.inside.important_lists.items c.self.inside.normal_lists.items c.self.invariant)

@@ -1,8 +1,4 @@
-use Rattle.value_types.specs.Validity.{IsDeclaredFor}
-use Rattle.style_data.proofs.DeclarationLemmas.{winners_of-declared_by}
-use Rattle.style_data.proofs.Lookups.{found_has}
-use Rattle.style_data.specs.ByProperty.{kept_for}
-use Rattle.std.proofs.Common.{refl}
+use Rattle.style_data.proofs.DeclarationLemmas.{are_declarations, winners_of-declared_by}
 use Rattle.style_data.proofs.declared_set.Winning.winners.Goals as goal
 
 pub returns-clause-value : goal.returns-clause-value
@@ -12,8 +8,5 @@ returns-clause-value c =
 
 pub returns-clause-bounds : goal.returns-clause-bounds
 returns-clause-bounds c =
-    rw (c.declared_for.ensures, c.declared_for-2.ensures, c.as_slice.ensures.value, c.as_slice-2.ensures.value)
-    record {
-      important = found_has IsDeclaredFor c.self.inside.important.items c.args.p (kept_for c.args.p c.self.inside.important.items) refl c.self.invariant.important;
-      normal = found_has IsDeclaredFor c.self.inside.normal.items c.args.p (kept_for c.args.p c.self.inside.normal.items) refl c.self.invariant.normal;
-    }
+    rw (← c.self.view_is)
+    (are_declarations c.self.inside.important.items c.self.inside.normal.items c.self.inside.important_lists.items c.self.inside.normal_lists.items c.self.invariant)
