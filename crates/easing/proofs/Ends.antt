@@ -9,7 +9,7 @@ use Rattle.value_types.specs.Timing.{IsEasing, fewest_steps}
 use Rattle.value_types.specs.declared.easing.Easing.TheVariants.{Linear, Cubic, Steps}
 use Rattle.value_types.specs.declared.easing.Jump.{Jump}
 use Rattle.value_types.specs.declared.easing.Jump.TheVariants.{Start, End, Both, Nowhere}
-use Rattle.easing.specs.Bezier.{coordinate, input_of, ordinate_output, parameter_of, parts, whole, IsParameter}
+use Rattle.easing.specs.Bezier.{coordinate, input_billionths, ordinate_output, parameter_of, parts, whole, IsParameter}
 use Rattle.easing.specs.Billionths.{billionths}
 use Rattle.easing.specs.Easings.{output_of}
 use Rattle.easing.specs.Stepping.{jumps_at_start, jumps_of, step_of}
@@ -24,10 +24,10 @@ exact part whole q some e = ap (λ v. rounded_quotient v whole) e ∙ rounded_ex
 
 -- ---- curves
 
-input_at_start : (d : ℕ) → input_of (pos 0) (pos d) ≡ pos 0
+input_at_start : (d : ℕ) → input_billionths (pos 0) (pos d) ≡ pos 0
 input_at_start d = ap pos (zero-div d)
 
-input_at_end : (d : ℕ) → 0 < d → input_of (pos d) (pos d) ≡ pos (10 ^ 9)
+input_at_end : (d : ℕ) → 0 < d → input_billionths (pos d) (pos d) ≡ pos (10 ^ 9)
 input_at_end d some = ap pos (mul-div_cancel_left (10 ^ 9) some)
 
 parameter_at_start : (x1 x2 : ℤ) → pos 0 ≤ℤ x1 → pos 0 ≤ℤ x2 → parameter_of x1 x2 (pos 0) ≡ 0
@@ -54,22 +54,22 @@ at_parameter y1 y2 q v k n is there e =
 pub cubic_at_start : (x1 y1 x2 y2 den : ℤ) (before : Bool) → IsEasing (Cubic x1 y1 x2 y2) → pos 0 <ℤ den → output_of (Cubic x1 y1 x2 y2) (pos 0) den before ≡ pos 0
 unfolding output_of
 cubic_at_start x1 y1 x2 y2 (pos d) before (first, second) some =
-    at_parameter y1 y2 (pos 0) (pos 0) (parameter_of x1 x2 (input_of (pos 0) (pos d))) 0
+    at_parameter y1 y2 (pos 0) (pos 0) (parameter_of x1 x2 (input_billionths (pos 0) (pos d))) 0
     (ap (parameter_of x1 x2) (input_at_start d) ∙ parameter_at_start x1 x2 first.low second.low) (coordinate_at_start y1 y2) refl
 cubic_at_start x1 y1 x2 y2 (negsuc d) before is some = absurd (omega (arith, ints))
 
 pub cubic_at_end : (x1 y1 x2 y2 den : ℤ) (before : Bool) → pos 0 <ℤ den → output_of (Cubic x1 y1 x2 y2) den den before ≡ pos (10 ^ 9)
 unfolding output_of
 cubic_at_end x1 y1 x2 y2 (pos d) before some =
-    at_parameter y1 y2 (pos (10 ^ 9)) (pos whole) (parameter_of x1 x2 (input_of (pos d) (pos d))) parts
+    at_parameter y1 y2 (pos (10 ^ 9)) (pos whole) (parameter_of x1 x2 (input_billionths (pos d) (pos d))) parts
     (ap (parameter_of x1 x2) (input_at_end d (omega (arith, ints))) ∙ parameter_at_end x1 x2) (coordinate_at_end y1 y2) refl
 cubic_at_end x1 y1 x2 y2 (negsuc d) before some = absurd (omega (arith, ints))
 
 -- the output of a curve at the one parameter of its input
-pub cubic_by_parameter : (x1 y1 x2 y2 num den : ℤ) (before : Bool) (k : ℕ) → pos 0 ≤ℤ input_of num den → IsParameter x1 x2 (input_of num den) k
+pub cubic_by_parameter : (x1 y1 x2 y2 num den : ℤ) (before : Bool) (k : ℕ) → pos 0 ≤ℤ input_billionths num den → IsParameter x1 x2 (input_billionths num den) k
     → output_of (Cubic x1 y1 x2 y2) num den before ≡ ordinate_output y1 y2 k
 unfolding output_of
-cubic_by_parameter x1 y1 x2 y2 num den before k low is = ap (ordinate_output y1 y2) (sym (parameter_only x1 x2 (input_of num den) k low is))
+cubic_by_parameter x1 y1 x2 y2 num den before k low is = ap (ordinate_output y1 y2) (sym (parameter_only x1 x2 (input_billionths num den) k low is))
 
 -- ---- linear and steps
 

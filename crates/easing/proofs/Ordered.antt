@@ -12,8 +12,8 @@ use Rattle.value_types.specs.declared.easing.Easing.{Easing}
 use Rattle.value_types.specs.declared.easing.Easing.TheVariants.{Linear, Cubic, Steps}
 use Rattle.value_types.specs.declared.easing.Jump.{Jump}
 use Rattle.value_types.specs.declared.easing.Jump.TheVariants.{Start, End, Both, Nowhere}
-use Rattle.easing.specs.Bezier.{coordinate, input_of, parameter_of, whole}
-use Rattle.easing.specs.Billionths.{IsUnit}
+use Rattle.easing.specs.Bezier.{coordinate, input_billionths, parameter_of, whole}
+use Rattle.fix_num.specs.Fractions.{IsFraction}
 use Rattle.easing.specs.Easings.{output_of, KeepsUnit}
 use Rattle.easing.specs.Stepping.{jumps_at_start, jumps_of, step_back, step_of}
 use Rattle.easing.proofs.Halving.{parameter_is}
@@ -71,12 +71,12 @@ steps_rise count jump n m d before some h =
 
 -- ---- curves
 
-pub input_positive : (num den : ℤ) → pos 0 ≤ℤ num → pos 0 <ℤ den → pos 0 ≤ℤ input_of num den
+pub input_positive : (num den : ℤ) → pos 0 ≤ℤ num → pos 0 <ℤ den → pos 0 ≤ℤ input_billionths num den
 input_positive (pos n) (pos d) low some = omega (arith, ints)
 input_positive (negsuc n) den low some = absurd (omega (arith, ints))
 input_positive (pos n) (negsuc d) low some = absurd (omega (arith, ints))
 
-input_rises : (num more den : ℤ) → num ≤ℤ more → pos 0 <ℤ den → input_of num den ≤ℤ input_of more den
+input_rises : (num more den : ℤ) → num ≤ℤ more → pos 0 <ℤ den → input_billionths num den ≤ℤ input_billionths more den
 input_rises num more (pos d) h some = div_rises (num *ℤ pos (10 ^ 9)) (more *ℤ pos (10 ^ 9)) d (omega (arith, ints)) (omega (arith, ints))
 input_rises num more (negsuc d) h some = absurd (omega (arith, ints))
 
@@ -92,13 +92,13 @@ parameters_rise x1 x2 x y some h =
 
 -- ---- all
 
-pub unit_of : (e : Easing) (num den : ℤ) (before : Bool) → IsEasing e → KeepsUnit e → pos 0 ≤ℤ num → num ≤ℤ den → pos 0 <ℤ den → IsUnit (output_of e num den before)
+pub unit_of : (e : Easing) (num den : ℤ) (before : Bool) → IsEasing e → KeepsUnit e → pos 0 ≤ℤ num → num ≤ℤ den → pos 0 <ℤ den → IsFraction (output_of e num den before)
 unfolding output_of
 unit_of Linear num den before is keeps low high some = billionths_unit num den some low high
 unit_of (Cubic x1 y1 x2 y2) num den before is (h1, h2) low high some =
-    let k = (parameter_is x1 x2 (input_of num den) (input_positive num den low some)).within in
-    let within = coordinate_unit y1 y2 (parameter_of x1 x2 (input_of num den)) h1 h2 k in
-    billionths_unit (coordinate y1 y2 (parameter_of x1 x2 (input_of num den))) (pos whole) (omega (arith, ints)) within.0 within.1
+    let k = (parameter_is x1 x2 (input_billionths num den) (input_positive num den low some)).within in
+    let within = coordinate_unit y1 y2 (parameter_of x1 x2 (input_billionths num den)) h1 h2 k in
+    billionths_unit (coordinate y1 y2 (parameter_of x1 x2 (input_billionths num den))) (pos whole) (omega (arith, ints)) within.0 within.1
 unit_of (Steps count jump) num den before (fewest, most) keeps low high some =
     let jumps = some_jumps jump count fewest in
     let within = clamped_within (pos (jumps_of jump count)) _ (omega (arith, ints)) in
@@ -109,9 +109,9 @@ pub never_falls : (e : Easing) (num more den : ℤ) (before : Bool) → IsEasing
 unfolding output_of
 never_falls Linear num more den before is keeps low h some = billionths_rise num more den some h
 never_falls (Cubic x1 y1 x2 y2) num more den before is (h1, h2) low h some =
-    let k = parameters_rise x1 x2 (input_of num den) (input_of more den) (input_positive num den low some) (input_rises num more den h some) in
-    let within = (parameter_is x1 x2 (input_of more den) (input_positive more den (omega (arith, ints)) some)).within in
-    billionths_rise _ _ (pos whole) (omega (arith, ints)) (coordinates_rise y1 y2 (parameter_of x1 x2 (input_of num den)) (parameter_of x1 x2 (input_of more den)) h1 h2 k within)
+    let k = parameters_rise x1 x2 (input_billionths num den) (input_billionths more den) (input_positive num den low some) (input_rises num more den h some) in
+    let within = (parameter_is x1 x2 (input_billionths more den) (input_positive more den (omega (arith, ints)) some)).within in
+    billionths_rise _ _ (pos whole) (omega (arith, ints)) (coordinates_rise y1 y2 (parameter_of x1 x2 (input_billionths num den)) (parameter_of x1 x2 (input_billionths more den)) h1 h2 k within)
 never_falls (Steps count jump) (pos n) (pos m) (pos d) before (fewest, most) keeps low h some =
     billionths_rise _ _ (pos (jumps_of jump count)) (some_jumps jump count fewest) (steps_rise count jump n m d before (omega (arith, ints)) (omega (arith, ints)))
 never_falls (Steps count jump) (negsuc n) more den before is keeps low h some = absurd (omega (arith, ints))

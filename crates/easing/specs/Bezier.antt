@@ -1,7 +1,8 @@
--- Cubic Bezier easing functions, after CSS Easing Functions Level 1, section 2.2: the curve from (0, 0) to (1, 1) whose inner
+-- Cubic Bezier easing functions, after CSS Easing Functions Level 1, "Cubic Bézier easing functions": the curve from (0, 0) to (1, 1) whose inner
 -- control points are (x1, y1) and (x2, y2), in thousandths.
 use Rattle.std.specs.Prelude.{ℕ, ◌*◌, ◌-◌, ◌^◌, ℤ, pos, ◌+ℤ◌, ◌*ℤ◌, ◌≤ℤ◌, int_le}
 use Rattle.std.specs.Int.{int_div_euclid}
+use Rattle.fix_num.specs.declared.units.TheConstants.Bill.{ONE}
 use Rattle.easing.specs.Billionths.{billionths}
 use Rattle.easing.specs.Greatest.{IsGreatest, greatest}
 
@@ -26,7 +27,7 @@ coordinate first second k =
 
 -- the point at parameter k isn't to the right of the input x, in billionths
 abbrev pub IsReached : ℤ → ℤ → ℤ → ℕ → Type 0
-IsReached x1 x2 x k = (coordinate x1 x2 k *ℤ pos (10 ^ 9)) ≤ℤ (x *ℤ pos whole)
+IsReached x1 x2 x k = (coordinate x1 x2 k *ℤ ONE.0) ≤ℤ (x *ℤ pos whole)
 
 -- the parameter of an input
 abbrev pub IsParameter : ℤ → ℤ → ℤ → ℕ → Type 0
@@ -34,11 +35,11 @@ IsParameter x1 x2 x k = IsGreatest (IsReached x1 x2 x) parts k
 
 -- the same as a function
 unfoldable pub parameter_of : ℤ → ℤ → ℤ → ℕ
-parameter_of x1 x2 x = greatest (λ k. int_le (coordinate x1 x2 k *ℤ pos (10 ^ 9)) (x *ℤ pos whole)) parts
+parameter_of x1 x2 x = greatest (λ k. int_le (coordinate x1 x2 k *ℤ ONE.0) (x *ℤ pos whole)) parts
 
 -- the input num / den in billionths, rounded down
-abbrev pub input_of : ℤ → ℤ → ℤ
-input_of num den = int_div_euclid (num *ℤ pos (10 ^ 9)) den
+abbrev pub input_billionths : ℤ → ℤ → ℤ
+input_billionths num den = int_div_euclid (num *ℤ ONE.0) den
 
 -- the output at parameter k
 abbrev pub ordinate_output : ℤ → ℤ → ℕ → ℤ

@@ -1,4 +1,4 @@
--- Step easing functions, after CSS Easing Functions Level 1, section 2.3.
+-- Step easing functions, after CSS Easing Functions Level 1, "Step easing functions".
 use Rattle.std.specs.Prelude.{ℕ, ◌+◌, ◌-◌, ℤ, pos, ◌+ℤ◌, ◌-ℤ◌, ◌*ℤ◌, Bool, ◌&&◌, if◌then◌else◌}
 use Rattle.std.specs.Int.{int_div_euclid, int_rem_euclid, int_min, int_max}
 use Rattle.std.specs.Ordering.{int_eq}

@@ -1,7 +1,8 @@
 //! Cubic Bezier curves.
 ghost use Rattle.std.specs.Prelude.{◌≡◌, ◌↔◌, ◌<◌, ◌≤◌, ◌*◌, ◌^◌, ℤ, pos, ◌*ℤ◌, ◌≤ℤ◌, ◌<ℤ◌, unsigned_abs, IsTrue};
 ghost use Rattle.value_types.specs.Timing.{IsControlPoint};
-ghost use Rattle.easing.specs.Bezier.{coordinate, input_of, ordinate_output, parameter_of, parts, whole, IsParameter, IsReached, IsUnitCoordinate};
+ghost use Rattle.value_types.specs.declared.limits.TheConstants.{MAX_ORDINATE};
+ghost use Rattle.easing.specs.Bezier.{coordinate, input_billionths, ordinate_output, parameter_of, parts, whole, IsParameter, IsReached, IsUnitCoordinate};
 
 use crate::units::{ONE, billionths};
 use fix_num::Bill;
@@ -20,7 +21,7 @@ pub fn cubic(x1: i32, y1: i32, x2: i32, y2: i32, num: i128, den: i128) -> Bill
     requires high { num ≤ℤ den }
     requires positive { pos 0 <ℤ den }
     requires small { unsigned_abs den < 2 ^ 81 }
-    ensures value { result.0 ≡ ordinate_output y1 y2 (parameter_of x1 x2 (input_of num den)) }
+    ensures value { result.0 ≡ ordinate_output y1 y2 (parameter_of x1 x2 (input_billionths num den)) }
     ensures size { unsigned_abs result.0 ≤ 10 ^ 10 }
 {
     let k = parameter(x1, x2, input(num, den));
@@ -33,7 +34,7 @@ fn input(num: i128, den: i128) -> u32
     requires high { num ≤ℤ den }
     requires positive { pos 0 <ℤ den }
     requires small { unsigned_abs den < 2 ^ 81 }
-    ensures value { pos result ≡ input_of num den }
+    ensures value { pos result ≡ input_billionths num den }
     ensures within { result ≤ 10 ^ 9 }
 {
     (num.unsigned_abs() * u128::from(ONE) / den.unsigned_abs()) as u32
@@ -61,8 +62,8 @@ fn parameter(x1: i32, x2: i32, x: u32) -> u32
 
 /// Whether the point at parameter `k` isn't to the right of the input `x`.
 fn is_reached(x1: i32, x2: i32, x: u32, k: u32) -> bool
-    requires first { unsigned_abs x1 ≤ 10000 }
-    requires second { unsigned_abs x2 ≤ 10000 }
+    requires first { unsigned_abs x1 ≤ MAX_ORDINATE }
+    requires second { unsigned_abs x2 ≤ MAX_ORDINATE }
     requires within { x ≤ 10 ^ 9 }
     requires parameter { k ≤ parts }
     ensures { IsTrue result ↔ IsReached x1 x2 (pos x) k }
@@ -72,8 +73,8 @@ fn is_reached(x1: i32, x2: i32, x: u32, k: u32) -> bool
 
 /// A coordinate of the point at parameter `k`, from those of the inner control points, in thousandths.
 fn coordinate(first: i32, second: i32, k: u32) -> i128
-    requires first { unsigned_abs first ≤ 10000 }
-    requires second { unsigned_abs second ≤ 10000 }
+    requires first { unsigned_abs first ≤ MAX_ORDINATE }
+    requires second { unsigned_abs second ≤ MAX_ORDINATE }
     requires parameter { k ≤ parts }
     ensures value { result ≡ coordinate first second k }
     ensures size { unsigned_abs result ≤ 10 * whole }
@@ -87,9 +88,9 @@ fn coordinate(first: i32, second: i32, k: u32) -> i128
 /// What a control point's coordinate adds at its weight.
 fn term(weight: u64, coordinate: i32) -> i128
     requires weight { weight ≤ 3 * parts ^ 3 }
-    requires coordinate { unsigned_abs coordinate ≤ 10000 }
+    requires coordinate { unsigned_abs coordinate ≤ MAX_ORDINATE }
     ensures value { result ≡ pos weight *ℤ coordinate }
-    ensures size { unsigned_abs result ≤ 10000 * weight }
+    ensures size { unsigned_abs result ≤ MAX_ORDINATE * weight }
 {
     i128::from(weight) * i128::from(coordinate)
 }

@@ -1,6 +1,7 @@
 //! Step easing functions.
 ghost use Rattle.std.specs.Prelude.{◌≡◌, ◌+◌, ◌<◌, ◌≤◌, ◌*◌, ◌^◌, ℤ, pos, ◌≤ℤ◌, ◌<ℤ◌, unsigned_abs};
 ghost use Rattle.value_types.specs.Timing.{fewest_steps};
+ghost use Rattle.value_types.specs.declared.limits.TheConstants.{MAX_STEPS};
 ghost use Rattle.easing.specs.Billionths.{billionths};
 ghost use Rattle.easing.specs.Stepping.{jumps_at_start, jumps_of, step_back, step_of};
 
@@ -11,7 +12,7 @@ use value_types::Jump;
 /// The output of `count` steps at the input `num / den`.
 pub fn steps(count: u32, jump: Jump, num: i128, den: i128, before: bool) -> Bill
     requires fewest { fewest_steps jump ≤ count }
-    requires most { count ≤ 1000000 }
+    requires most { count ≤ MAX_STEPS }
     requires low { pos 0 ≤ℤ num }
     requires high { num ≤ℤ den }
     requires positive { pos 0 <ℤ den }
@@ -26,7 +27,7 @@ pub fn steps(count: u32, jump: Jump, num: i128, den: i128, before: bool) -> Bill
 /// The current step, from 0 to the number of jumps.
 fn step(count: u32, jump: Jump, num: u128, den: u128, before: bool) -> u32
     requires fewest { fewest_steps jump ≤ count }
-    requires most { count ≤ 1000000 }
+    requires most { count ≤ MAX_STEPS }
     requires within { num ≤ den }
     requires positive { 0 < den }
     requires small { den < 2 ^ 81 }
@@ -51,9 +52,9 @@ fn step_back(position: u128, den: u128, before: bool) -> u32
 /// How many jumps make up the way from 0 to 1.
 fn jumps(count: u32, jump: Jump) -> u32
     requires fewest { fewest_steps jump ≤ count }
-    requires most { count ≤ 1000000 }
+    requires most { count ≤ MAX_STEPS }
     ensures value { result ≡ jumps_of jump count }
-    ensures size { (0 < result) × (result ≤ 1000001) }
+    ensures size { (0 < result) × (result ≤ MAX_STEPS + 1) }
 {
     match jump {
         Jump::Start | Jump::End => count,

@@ -1,13 +1,13 @@
-//! The output of easing functions, exact in billionths: linear, cubic Bezier curves and steps, after CSS
-//! Easing Functions Level 1. `output(Easing::Linear, 1, 4, false)` is `Bill(250_000_000)`.
+//! Floor: values. Knows no element and no time: the output of easing functions, exact in billionths, for linear
+//! ones, cubic Bezier curves and steps (CSS Easing Functions Level 1).
+//!
+//! `output(Easing::Linear, 1, 4, false)` is `Bill(250_000_000)`.
 #![tactic(auto)]
 
 mod curve;
 mod jumps;
 mod laws;
 mod outputs;
-#[cfg(test)]
-mod tests;
 mod units;
 
 pub use laws::{

@@ -1,7 +1,7 @@
 //! The output of an easing function.
 ghost use Rattle.std.specs.Prelude.{◌≡◌, ◌<◌, ◌≤◌, ◌^◌, ℤ, pos, ◌≤ℤ◌, ◌<ℤ◌, unsigned_abs};
 ghost use Rattle.value_types.specs.Timing.{IsEasing};
-ghost use Rattle.easing.specs.Billionths.{IsUnit};
+ghost use Rattle.fix_num.specs.Fractions.{IsFraction};
 ghost use Rattle.easing.specs.Easings.{KeepsUnit, output_of};
 
 use crate::curve::cubic;
@@ -11,7 +11,7 @@ use fix_num::Bill;
 use value_types::Easing;
 
 /// The output of an easing at the input `num / den`, which is from 0 to 1, in billionths (CSS Easing
-/// Functions Level 1, section 2). `before` is the before flag.
+/// Functions Level 1, "Easing functions"). `before` is the before flag.
 #[tactic(auto, unfolding(crate::specs::Easings::output_of))]
 pub fn output(e: Easing, num: i128, den: i128, before: bool) -> Bill
     requires easing { IsEasing e }
@@ -21,7 +21,7 @@ pub fn output(e: Easing, num: i128, den: i128, before: bool) -> Bill
     requires small { unsigned_abs den < 2 ^ 81 }
     ensures value { result.0 ≡ output_of e num den before }
     ensures size { unsigned_abs result.0 ≤ 10 ^ 10 }
-    ensures unit { KeepsUnit e → IsUnit result.0 }
+    ensures unit { KeepsUnit e → IsFraction result.0 }
 {
     match e {
         Easing::Linear => billionths(num, den),

@@ -4,8 +4,8 @@ ghost use Rattle.easing.specs.Billionths.{billionths};
 
 use fix_num::{Bill, rnd};
 
-/// The number that counts as 1.
-pub const ONE: u32 = 1_000_000_000;
+/// 1, in billionths.
+pub const ONE: u32 = Bill::ONE.0 as u32;
 
 /// `part / whole` in billionths, rounded.
 pub fn billionths(part: i128, whole: i128) -> Bill

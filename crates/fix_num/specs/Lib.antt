@@ -1,6 +1,7 @@
 pub mod Clamping
 pub mod Decimal
 pub mod Digits
+pub mod Fractions
 pub mod Integer
 pub mod Parts
 pub mod Print

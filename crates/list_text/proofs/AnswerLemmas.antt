@@ -7,7 +7,8 @@ use Rattle.token_parts.specs.Parts.{Piece, Ident}
 use Rattle.token_parts.specs.declared.fault.ValueFault.{ValueFault}
 use Rattle.token_parts.specs.declared.fault.ValueFault.TheVariants.{Unsupported, BoundItems, Bound, NoMemory}
 use Rattle.value_types.specs.ListValues.{IsListValueFor}
-use Rattle.value_types.specs.Timing.{IsCount, IsDelay, IsDuration, IsEasing}
+use Rattle.value_types.specs.Names.{IsNameItem}
+use Rattle.value_types.specs.Timing.{IsAny, IsCount, IsDelay, IsDuration, IsEasing}
 use Rattle.value_types.specs.TimingLists.{IsListOf}
 use Rattle.value_types.specs.declared.list_value.ListName.{ListName}
 use Rattle.value_types.specs.declared.list_value.ListName.TheVariants as list
@@ -25,7 +26,7 @@ use Rattle.list_text.specs.Numbers.{clamped}
 use Rattle.list_text.specs.Lists.{AreItems, AreItemsOf, IsCountSpelling, IsDelaySpelling, IsDurationSpelling, IsListAnswer, IsListSpelling, IsWord, direction_words, fill_words, initial, item_count, items, last, more, name_of_word, nothing, property_of_word, state_words}
 use Rattle.list_text.specs.ItemReading.{Gives, any, count_of, count_within, is_initial, is_word, items_of, list_of, micros_of, micros_within, properties_of, result_map, value_of, word_item}
 use Rattle.list_text.specs.Reading.{easing_of, easing_within}
-use Rattle.list_text.proofs.ListLemmas.{Answers, EachIs, answers, easing_judges, word_judges}
+use Rattle.list_text.proofs.ListLemmas.{Answers, EachIs, answers, easing_judges, name_judges, word_judges}
 use Rattle.list_text.proofs.TimeLemmas.{count_judges, delay_judges, duration_judges}
 
 -- ---- the special words
@@ -46,7 +47,7 @@ initial_answer name (Ident w ∷ []) h = (initial name w h, omega arith, tt)
 initial_answer name _ h = absurd (cc)
 
 nothing_answer : (parts : List Piece) → is_nothing list.TransitionProperty parts ≡ true → IsListAnswer list.TransitionProperty parts (Ok (Properties []))
-nothing_answer (Ident w ∷ []) h = (nothing w h, omega arith, tt)
+nothing_answer (Ident w ∷ []) h = (nothing w h, omega arith, omega arith)
 nothing_answer _ h = absurd (cc)
 
 -- ---- one kind of items
@@ -63,30 +64,26 @@ all_each : {T : Type 0} (W : T → Type 0) (xs : List T) → All W xs → EachIs
 all_each W [] h = tt
 all_each W (x ∷ xs) h = (All-head W x xs h, all_each W xs (All-tail W x xs h))
 
--- items without bounds
-abbrev pub Free : {T : Type 0} → T → Type 0
-Free x = Unit {0}
+each_any : {T : Type 0} (xs : List T) → EachIs IsAny xs
+each_any [] = tt
+each_any (x ∷ xs) = (tt, each_any xs)
 
-each_free : {T : Type 0} (xs : List T) → EachIs Free xs
-each_free [] = tt
-each_free (x ∷ xs) = (tt, each_free xs)
-
-is_list : {T : Type 0} (W : T → Type 0) (xs : List T) → 0 < length xs → EachIs W xs → IsListOf W xs
-is_list W xs some h = record { some = some; each = each_all W xs h }
+is_list : {T : Type 0} (W : T → Type 0) (xs : List T) → 0 < length xs → length xs ≤ 32 → EachIs W xs → IsListOf W xs
+is_list W xs some few h = record { some = some; few = few; each = each_all W xs h }
 
 -- the values of the list are such items, and within its bounds where each item is
 pub record IsSort {T : Type 0} (name : ListName) (P : List Piece → T → Type 0) (W : T → Type 0) (C : List T → ListValue) : Type 0 where
   pub only : (parts : List Piece) (v : ListValue) → AreItemsOf name parts v → (xs : List T) × (v ≡ C xs) × AreItems P parts xs
   pub are : (parts : List Piece) (xs : List T) → AreItems P parts xs → AreItemsOf name parts (C xs)
   pub size : (xs : List T) → item_count (C xs) ≡ length xs
-  pub fits : (xs : List T) → 0 < length xs → EachIs W xs → IsListValueFor name (C xs)
+  pub fits : (xs : List T) → 0 < length xs → length xs ≤ 32 → EachIs W xs → IsListValueFor name (C xs)
   pub fitted : (xs : List T) → IsListValueFor name (C xs) → EachIs W xs
 
 sort_answer : {T : Type 0} (name : ListName) (P : List Piece → T → Type 0) (W : T → Type 0) (C : List T → ListValue) (parts : List Piece) (r : Result (List T) ValueFault)
     → IsSort name P W C → Answers P W parts r → is_initial parts ≡ false → is_nothing name parts ≡ false → IsListAnswer name parts (result_map C r)
 sort_answer name P W C parts (Ok xs) s a one none =
     let k = a.ok xs refl in
-    (items name parts (C xs) (s.are parts xs k.0), subst (λ n. n ≤ 32) (sym (s.size xs)) k.1, s.fits xs (some_items k.0) k.2)
+    (items name parts (C xs) (s.are parts xs k.0), subst (λ n. n ≤ 32) (sym (s.size xs)) k.1, s.fits xs (some_items k.0) k.1 k.2)
 sort_answer name P W C parts (Err Unsupported) s a one none =
     λ v spelled. let h = s.only parts v (split spelled one none) in a.unsupported refl h.0 h.2
 sort_answer name P W C parts (Err BoundItems) s a one none =
@@ -147,8 +144,8 @@ animation_states_only : (parts : List Piece) (v : ListValue) → AreItemsOf list
 animation_states_only parts (States xs) h = (xs, refl, h)
 animation_states_only parts _ h = absurd h
 
-properties_sort : IsSort list.TransitionProperty (IsWord property_of_word) Free Properties
-properties_sort = record { only = properties_only; are = λ parts xs h. h; size = λ xs. refl; fits = λ xs some h. tt; fitted = λ xs h. each_free xs }
+properties_sort : IsSort list.TransitionProperty (IsWord property_of_word) IsAny Properties
+properties_sort = record { only = properties_only; are = λ parts xs h. h; size = λ xs. refl; fits = λ xs some few h. few; fitted = λ xs h. each_any xs }
 
 transition_durations_sort : IsSort list.TransitionDuration IsDurationSpelling IsDuration Times
 transition_durations_sort = record { only = transition_durations_only; are = λ parts xs h. h; size = λ xs. refl; fits = is_list IsDuration; fitted = λ xs h. all_each IsDuration xs h.each }
@@ -159,8 +156,8 @@ transition_delays_sort = record { only = transition_delays_only; are = λ parts 
 transition_easings_sort : IsSort list.TransitionEasing IsEasingSpelling IsEasing Easings
 transition_easings_sort = record { only = transition_easings_only; are = λ parts xs h. h; size = λ xs. refl; fits = is_list IsEasing; fitted = λ xs h. all_each IsEasing xs h.each }
 
-animation_names_sort : IsSort list.AnimationName (IsWord name_of_word) Free Names
-animation_names_sort = record { only = animation_names_only; are = λ parts xs h. h; size = λ xs. refl; fits = λ xs some h. some; fitted = λ xs h. each_free xs }
+animation_names_sort : IsSort list.AnimationName (IsWord name_of_word) IsNameItem Names
+animation_names_sort = record { only = animation_names_only; are = λ parts xs h. h; size = λ xs. refl; fits = is_list IsNameItem; fitted = λ xs h. all_each IsNameItem xs h.each }
 
 animation_durations_sort : IsSort list.AnimationDuration IsDurationSpelling IsDuration Times
 animation_durations_sort = record { only = animation_durations_only; are = λ parts xs h. h; size = λ xs. refl; fits = is_list IsDuration; fitted = λ xs h. all_each IsDuration xs h.each }
@@ -174,22 +171,22 @@ animation_easings_sort = record { only = animation_easings_only; are = λ parts 
 animation_counts_sort : IsSort list.AnimationCount IsCountSpelling IsCount Counts
 animation_counts_sort = record { only = animation_counts_only; are = λ parts xs h. h; size = λ xs. refl; fits = is_list IsCount; fitted = λ xs h. all_each IsCount xs h.each }
 
-animation_directions_sort : IsSort list.AnimationDirection (IsWord (look_up direction_words)) Free Directions
-animation_directions_sort = record { only = animation_directions_only; are = λ parts xs h. h; size = λ xs. refl; fits = λ xs some h. some; fitted = λ xs h. each_free xs }
+animation_directions_sort : IsSort list.AnimationDirection (IsWord (look_up direction_words)) IsAny Directions
+animation_directions_sort = record { only = animation_directions_only; are = λ parts xs h. h; size = λ xs. refl; fits = is_list IsAny; fitted = λ xs h. each_any xs }
 
-animation_fills_sort : IsSort list.AnimationFill (IsWord (look_up fill_words)) Free Fills
-animation_fills_sort = record { only = animation_fills_only; are = λ parts xs h. h; size = λ xs. refl; fits = λ xs some h. some; fitted = λ xs h. each_free xs }
+animation_fills_sort : IsSort list.AnimationFill (IsWord (look_up fill_words)) IsAny Fills
+animation_fills_sort = record { only = animation_fills_only; are = λ parts xs h. h; size = λ xs. refl; fits = is_list IsAny; fitted = λ xs h. each_any xs }
 
-animation_states_sort : IsSort list.AnimationPlayState (IsWord (look_up state_words)) Free States
-animation_states_sort = record { only = animation_states_only; are = λ parts xs h. h; size = λ xs. refl; fits = λ xs some h. some; fitted = λ xs h. each_free xs }
+animation_states_sort : IsSort list.AnimationPlayState (IsWord (look_up state_words)) IsAny States
+animation_states_sort = record { only = animation_states_only; are = λ parts xs h. h; size = λ xs. refl; fits = is_list IsAny; fitted = λ xs h. each_any xs }
 
 property_answer : (parts : List Piece) (b : Bool) → is_initial parts ≡ false → is_nothing list.TransitionProperty parts ≡ b
     → IsListAnswer list.TransitionProperty parts (properties_of parts)
 unfolding properties_of
 property_answer parts true one none = rw none (nothing_answer parts none)
 property_answer parts false one none =
-    rw none (sort_answer list.TransitionProperty (IsWord property_of_word) Free Properties parts (items_of (word_item property_of_word) any parts) properties_sort
-    (answers (IsWord property_of_word) Free (word_item property_of_word) any (word_judges property_of_word) parts) one none)
+    rw none (sort_answer list.TransitionProperty (IsWord property_of_word) IsAny Properties parts (items_of (word_item property_of_word) any parts) properties_sort
+    (answers (IsWord property_of_word) IsAny (word_item property_of_word) any (word_judges property_of_word) parts) one none)
 
 value_answer : (name : ListName) (parts : List Piece) → is_initial parts ≡ false → IsListAnswer name parts (value_of name parts)
 value_answer list.TransitionProperty parts one = property_answer parts (is_nothing list.TransitionProperty parts) one refl
@@ -200,7 +197,7 @@ value_answer list.TransitionDelay parts one =
 value_answer list.TransitionEasing parts one =
     sort_answer list.TransitionEasing IsEasingSpelling IsEasing Easings parts (items_of (easing_of clamped) easing_within parts) transition_easings_sort (answers IsEasingSpelling IsEasing (easing_of clamped) easing_within easing_judges parts) one refl
 value_answer list.AnimationName parts one =
-    sort_answer list.AnimationName (IsWord name_of_word) Free Names parts (items_of (word_item name_of_word) any parts) animation_names_sort (answers (IsWord name_of_word) Free (word_item name_of_word) any (word_judges name_of_word) parts) one refl
+    sort_answer list.AnimationName (IsWord name_of_word) IsNameItem Names parts (items_of (word_item name_of_word) any parts) animation_names_sort (answers (IsWord name_of_word) IsNameItem (word_item name_of_word) any name_judges parts) one refl
 value_answer list.AnimationDuration parts one =
     sort_answer list.AnimationDuration IsDurationSpelling IsDuration Times parts (items_of (micros_of clamped false) micros_within parts) animation_durations_sort (answers IsDurationSpelling IsDuration (micros_of clamped false) micros_within duration_judges parts) one refl
 value_answer list.AnimationDelay parts one =
@@ -210,11 +207,11 @@ value_answer list.AnimationEasing parts one =
 value_answer list.AnimationCount parts one =
     sort_answer list.AnimationCount IsCountSpelling IsCount Counts parts (items_of (count_of clamped) count_within parts) animation_counts_sort (answers IsCountSpelling IsCount (count_of clamped) count_within count_judges parts) one refl
 value_answer list.AnimationDirection parts one =
-    sort_answer list.AnimationDirection (IsWord (look_up direction_words)) Free Directions parts (items_of (word_item (look_up direction_words)) any parts) animation_directions_sort (answers (IsWord (look_up direction_words)) Free (word_item (look_up direction_words)) any (word_judges (look_up direction_words)) parts) one refl
+    sort_answer list.AnimationDirection (IsWord (look_up direction_words)) IsAny Directions parts (items_of (word_item (look_up direction_words)) any parts) animation_directions_sort (answers (IsWord (look_up direction_words)) IsAny (word_item (look_up direction_words)) any (word_judges (look_up direction_words)) parts) one refl
 value_answer list.AnimationFill parts one =
-    sort_answer list.AnimationFill (IsWord (look_up fill_words)) Free Fills parts (items_of (word_item (look_up fill_words)) any parts) animation_fills_sort (answers (IsWord (look_up fill_words)) Free (word_item (look_up fill_words)) any (word_judges (look_up fill_words)) parts) one refl
+    sort_answer list.AnimationFill (IsWord (look_up fill_words)) IsAny Fills parts (items_of (word_item (look_up fill_words)) any parts) animation_fills_sort (answers (IsWord (look_up fill_words)) IsAny (word_item (look_up fill_words)) any (word_judges (look_up fill_words)) parts) one refl
 value_answer list.AnimationPlayState parts one =
-    sort_answer list.AnimationPlayState (IsWord (look_up state_words)) Free States parts (items_of (word_item (look_up state_words)) any parts) animation_states_sort (answers (IsWord (look_up state_words)) Free (word_item (look_up state_words)) any (word_judges (look_up state_words)) parts) one refl
+    sort_answer list.AnimationPlayState (IsWord (look_up state_words)) IsAny States parts (items_of (word_item (look_up state_words)) any parts) animation_states_sort (answers (IsWord (look_up state_words)) IsAny (word_item (look_up state_words)) any (word_judges (look_up state_words)) parts) one refl
 
 -- ---- any list
 

@@ -1,17 +1,20 @@
 -- The items that the reader finds are what the parts spell.
-use Rattle.std.proofs.Common.{◌≡◌, ℕ, suc, ◌<◌, ◌≤◌, nat_lt, refl, arith, ap, sym, subst, ◌∙◌, List, ◌∷◌, [], ◌++◌, length, cond, ◌&&◌, Bool, true, false, Option, Some, None, Result, Ok, Err}
+use Rattle.std.proofs.Common.{◌≡◌, ℕ, suc, ◌<◌, ◌≤◌, nat_lt, refl, arith, ap, sym, subst, ◌∙◌, List, ◌∷◌, [], ◌++◌, length, cond, ◌&&◌, Bool, true, false, Option, Some, None, Result, Ok, Err, codes}
 use Rattle.std.specs.List.{list_all}
 use Rattle.std.proofs.lemmas.Bool.Decides.{nat_tests}
+use Rattle.token_parts.specs.Keywords.{names}
 use Rattle.token_parts.specs.Parts.{Piece, Ident, Comma}
 use Rattle.token_parts.specs.declared.fault.ValueFault.{ValueFault}
 use Rattle.token_parts.specs.declared.fault.ValueFault.TheVariants.{Unsupported, BoundItems, Bound}
-use Rattle.value_types.specs.Timing.{IsEasing}
+use Rattle.value_types.proofs.NameLemmas.{animation_name_told}
+use Rattle.value_types.specs.Names.{IsNameItem, is_animation_name}
+use Rattle.value_types.specs.Timing.{IsAny, IsEasing}
 use Rattle.value_types.specs.declared.easing.Easing.{Easing}
 use Rattle.list_text.specs.Numbers.{clamp, clamped}
 use Rattle.list_text.specs.Easings.{IsEasingSpelling, curve, steps, steps_and_jump, word}
 use Rattle.list_text.proofs.EasingLemmas.{easing_far, easing_found, easing_ok, view_easing}
 use Rattle.list_text.proofs.ViewLemmas.{at_limits}
-use Rattle.list_text.specs.Lists.{AreItems, IsWord, last, more}
+use Rattle.list_text.specs.Lists.{AreItems, IsWord, last, more, name_of_word}
 use Rattle.list_text.specs.ItemReading.{each_of, groups_of, is_inside, items_of, limited, onto_first, parts_items, word_item}
 use Rattle.list_text.specs.Reading.{easing_of, easing_within}
 use Rattle.list_text.proofs.OptionLemmas.{bound}
@@ -52,7 +55,7 @@ cuts : (inside : Bool) (parts : List Piece) → Cuts parts (groups_of inside par
 cuts inside [] = record { first = []; rest = []; are = refl; same = refl }
 cuts inside (p ∷ ps) = cuts_at (parts_items inside p) inside p ps refl (is_comma inside p) (cuts false ps) (cuts (is_inside inside p) ps)
 
--- one group, whatever follows behind a comma
+-- one group, whatever follows after a comma
 pub record IsWhole (parts : List Piece) : Type 0 where
   pub alone : groups_of false parts ≡ parts ∷ []
   pub before : (rest : List Piece) → groups_of false (parts ++ Comma ∷ rest) ≡ parts ∷ groups_of false rest
@@ -188,14 +191,31 @@ word_was meaning _ y h = absurd (cc)
 pub word_whole : {T : Type 0} (meaning : List ℕ → Option T) (parts : List Piece) (x : T) → IsWord meaning parts x → IsWhole parts
 word_whole meaning parts x h = subst IsWhole (sym h.1) (record { alone = refl; before = λ rest. refl })
 
--- the lists of words, which have no bounds
-pub word_judges : {T : Type 0} (meaning : List ℕ → Option T) → Judges (IsWord meaning) (λ x. Unit {0}) (word_item meaning) (λ x. true)
-word_judges meaning = record {
+-- the lists of words, whose items keep their bounds by what the words mean
+pub bounded_words : {T : Type 0} (W : T → Type 0) (meaning : List ℕ → Option T) → ((w : List ℕ) (x : T) → meaning w ≡ Some x → W x)
+    → Judges (IsWord meaning) W (word_item meaning) (λ x. true)
+bounded_words W meaning keeps = record {
   whole = word_whole meaning;
   found = λ parts x h. (x, subst (λ l. word_item meaning l ≡ Some x) (sym h.1) h.2);
-  kept = λ parts y h w. (word_was meaning parts y h, tt);
+  kept = λ parts y h w. let word = word_was meaning parts y h in (word, keeps word.0 y word.2);
   past = λ parts y h (w : true ≡ false). absurd (cc);
 }
+
+-- those without bounds
+pub word_judges : {T : Type 0} (meaning : List ℕ → Option T) → Judges (IsWord meaning) IsAny (word_item meaning) (λ x. true)
+word_judges meaning = bounded_words IsAny meaning (λ w x h. tt)
+
+-- a name, or none
+name_at : (w : List ℕ) (a b : Bool) (x : Option (List ℕ)) → is_animation_name w ≡ b → cond a (Some None) (cond b (Some (Some w)) None) ≡ Some x → IsNameItem x
+name_at w true b x name h = let same : None ≡ x = cc in subst IsNameItem same tt
+name_at w false true x name h = let same : Some w ≡ x = cc in subst IsNameItem same (animation_name_told w name)
+name_at w false false x name h = absurd (cc)
+
+name_item : (w : List ℕ) (x : Option (List ℕ)) → name_of_word w ≡ Some x → IsNameItem x
+name_item w x h = name_at w (names w (codes "none")) (is_animation_name w) x refl h
+
+pub name_judges : Judges (IsWord name_of_word) IsNameItem (word_item name_of_word) (λ x. true)
+name_judges = bounded_words IsNameItem name_of_word name_item
 
 pub easing_whole : {parts : List Piece} {e : Easing} → IsEasingSpelling parts e → IsWhole parts
 easing_whole (word w e is) = record { alone = refl; before = λ rest. refl }

@@ -6,6 +6,8 @@ use Rattle.std.specs.Str.{bytes_eq, str_to_ascii_lowercase}
 use Rattle.std.proofs.lemmas.Bool.{and_parts}
 use Rattle.token_parts.specs.Keywords.{names, look_up}
 use Rattle.token_parts.specs.Parts.{Piece, Ident, Comma}
+use Rattle.value_types.specs.Names.{is_animation_name, is_reserved}
+use Rattle.value_types.proofs.NameLemmas.{animation_name_told}
 use Rattle.value_types.specs.declared.easing.Easing.{Easing}
 use Rattle.value_types.specs.declared.list_value.ListName.{ListName}
 use Rattle.value_types.specs.declared.list_value.ListName.TheVariants as list
@@ -16,7 +18,7 @@ use Rattle.value_types.specs.declared.timing.Count.{Count}
 use Rattle.value_types.specs.declared.timing.Count.TheVariants as count
 use Rattle.list_text.specs.Easings.{IsEasingSpelling, curve, easing_words, steps, steps_and_jump, word}
 use Rattle.list_text.specs.Numbers.{nearest}
-use Rattle.list_text.specs.Lists.{AreItems, AreItemsOf, IsCountSpelling, IsDelaySpelling, IsDurationSpelling, IsListSpelling, IsTime, IsWord, direction_words, fill_words, infinite, initial, is_of_cascade, items, last, milliseconds, more, name_of_word, nothing, property_of_word, seconds, state_words, times}
+use Rattle.list_text.specs.Lists.{AreItems, AreItemsOf, IsCountSpelling, IsDelaySpelling, IsDurationSpelling, IsListSpelling, IsTime, IsWord, direction_words, fill_words, infinite, initial, items, last, milliseconds, more, name_of_word, nothing, property_of_word, seconds, state_words, times}
 use Rattle.list_text.specs.ItemReading.{count_of, each_of, groups_of, is_initial, is_word, micros_of, word_item}
 use Rattle.list_text.specs.Reading.{easing_of}
 use Rattle.list_text.proofs.AnswerLemmas.{is_nothing}
@@ -67,22 +69,32 @@ failed : {V : Type 0} (b : Bool) (o : Option V) (x : V) → cond b None o ≡ So
 failed true o x h = absurd (cc)
 failed false o x h = refl
 
-first_two : (a b c : Bool) → a || b || c ≡ false → a || b ≡ false
-first_two true b c h = absurd (cc)
-first_two false true c h = absurd (cc)
-first_two false false c h = refl
+-- a word that isn't reserved is none of the four
+not_reserved : (none initial inherit unset : Bool) → none || (initial || (inherit || (unset || false))) ≡ false → (none ≡ false) × (initial || unset ≡ false)
+not_reserved true b c d h = absurd (cc)
+not_reserved false true c d h = absurd (cc)
+not_reserved false false true d h = absurd (cc)
+not_reserved false false false true h = absurd (cc)
+not_reserved false false false false h = (refl, refl)
 
-both_fail : (a b : Bool) → a || b ≡ false → (a ≡ false) × (b ≡ false)
-both_fail true b h = absurd (cc)
-both_fail false b h = (refl, h)
+free_word : (w : List ℕ) → is_reserved w ≡ false → (names w (codes "none") ≡ false) × (is_initial (Ident w ∷ []) ≡ false)
+free_word w h = not_reserved (names w (codes "none")) (names w (codes "initial")) (names w (codes "inherit")) (names w (codes "unset")) h
+
+not_true : (b : Bool) → not b ≡ true → b ≡ false
+not_true true h = absurd (cc)
+not_true false h = refl
+
+name_at : (w : List ℕ) (a b : Bool) (x : Option (List ℕ)) → names w (codes "none") ≡ a → is_animation_name w ≡ b
+    → cond a (Some None) (cond b (Some (Some w)) None) ≡ Some x → is_initial (Ident w ∷ []) ≡ false
+name_at w true b x none name h = neither _ _ (only_one w (codes "none") (codes "initial") none refl) (only_one w (codes "none") (codes "unset") none refl)
+name_at w false true x none name h = (free_word w (not_true (is_reserved w) (animation_name_told w name).free)).1
+name_at w false false x none name h = absurd (cc)
 
 name_free : (w : List ℕ) (x : Option (List ℕ)) → name_of_word w ≡ Some x → is_initial (Ident w ∷ []) ≡ false
-name_free w x h = first_two (names w (codes "initial")) (names w (codes "unset")) (names w (codes "inherit")) (failed (is_of_cascade w) _ x h)
+name_free w x h = name_at w (names w (codes "none")) (is_animation_name w) x refl refl h
 
 property_free : (w : List ℕ) (x : PropertyItem) → property_of_word w ≡ Some x → (is_initial (Ident w ∷ []) ≡ false) × (names w (codes "none") ≡ false)
-property_free w x h =
-    let both = both_fail (is_of_cascade w) (names w (codes "none")) (failed (is_of_cascade w || names w (codes "none")) _ x h) in
-    (first_two (names w (codes "initial")) (names w (codes "unset")) (names w (codes "inherit")) both.0, both.1)
+property_free w x h = let free = free_word w (failed (is_reserved w) _ x h) in (free.1, free.0)
 
 -- items with a comma aren't one word
 no_word : (test : List ℕ → Bool) (parts rest : List Piece) → is_word test (parts ++ Comma ∷ rest) ≡ false

@@ -1,12 +1,14 @@
 -- The items of timing lists as functions of the parts.
-use Rattle.std.specs.Prelude.{◌≡◌, ℕ, ◌^◌, ℤ, pos, Bool, true, false, ◌||◌, nat_le, nat_lt, if◌then◌else◌, unsigned_abs, List, [], ◌∷◌, ◌++◌, length, codes, Option, None, Some, option_map, Result, Ok, Err, ⊤}
+use Rattle.std.specs.Prelude.{◌≡◌, ℕ, ℤ, pos, Bool, true, false, ◌||◌, nat_le, nat_lt, if◌then◌else◌, unsigned_abs, List, [], ◌∷◌, ◌++◌, length, codes, Option, None, Some, option_map, Result, Ok, Err, ⊤}
 use Rattle.std.specs.List.{list_all}
+use Rattle.fix_num.specs.declared.limits.TheConstants.{MAX_NUMBER, MAX_TIME}
 use Rattle.fix_num.specs.declared.units.Micros.{Micros}
 use Rattle.token_parts.specs.Keywords.{names, look_up}
 use Rattle.token_parts.specs.Parts.{Piece, Ident, Function, Number, Dimension, Comma, Close}
 use Rattle.token_parts.specs.declared.fault.ValueFault.{ValueFault}
 use Rattle.token_parts.specs.declared.fault.ValueFault.TheVariants.{Unsupported, BoundItems, Bound, NoMemory}
 use Rattle.value_types.specs.declared.easing.Easing.{Easing}
+use Rattle.value_types.specs.declared.limits.TheConstants.{MAX_ITEMS}
 use Rattle.value_types.specs.declared.list_value.ListName.{ListName}
 use Rattle.value_types.specs.declared.list_value.ListName.TheVariants as list
 use Rattle.value_types.specs.declared.list_value.ListValue.{ListValue}
@@ -24,13 +26,15 @@ word_item meaning parts = word_of parts >>= meaning
 -- a time with its unit
 unfoldable pub time_with : Numbers → List ℕ → List ℕ → Option ℤ
 time_with num n u =
-    (if names u (codes "s") then num 6 (10 ^ 15) n
-    else if names u (codes "ms") then num 3 (10 ^ 15) n else None)
+    (if names u (codes "s") then num 6 MAX_TIME n
+    else if names u (codes "ms") then num 3 MAX_TIME n else None)
 
+-- the time that one part is
 abbrev pub time_of : Numbers → List Piece → Option ℤ
 time_of num (Dimension n u ∷ []) = time_with num n u
 time_of num _ = None
 
+-- so many microseconds
 abbrev pub micros : ℤ → Micros
 micros v = record { 0 = v }
 
@@ -40,12 +44,14 @@ micros_of num signed parts = do
   v ← time_of num parts
   if signed then Some (micros v) else option_map (λ n. micros (pos n)) (not_negative v)
 
+-- the count that a word is
 abbrev pub count_word : List ℕ → Option Count
 count_word w = (if names w (codes "infinite") then Some count.Infinite else None)
 
+-- the count that one part is
 abbrev pub count_of : Numbers → List Piece → Option Count
 count_of num (Ident w ∷ []) = count_word w
-count_of num (Number n ∷ []) = option_map (λ k. count.Times (record { 0 = pos k })) (natural num 6 (10 ^ 12) n)
+count_of num (Number n ∷ []) = option_map (λ k. count.Times (record { 0 = pos k })) (natural num 6 MAX_NUMBER n)
 count_of num _ = None
 
 -- durations are not negative
@@ -56,16 +62,16 @@ has_sign _ = true
 
 -- the time is within its limit
 abbrev pub micros_within : Micros → Bool
-micros_within t = nat_le (unsigned_abs t.0) (10 ^ 15)
+micros_within t = nat_le (unsigned_abs t.0) MAX_TIME
 
 -- the count is within its limit
 abbrev pub count_within : Count → Bool
-count_within (count.Times n) = nat_le (unsigned_abs n.0) (10 ^ 12)
+count_within (count.Times n) = nat_le (unsigned_abs n.0) MAX_NUMBER
 count_within count.Infinite = true
 
 -- ---- lists
 
--- whether a bracket is open behind the part
+-- whether a bracket is open after the part
 abbrev pub is_inside : Bool → Piece → Bool
 is_inside inside (Function f) = true
 is_inside inside Close = false
@@ -101,7 +107,7 @@ with_front front found = option_map (λ ys. front ++ ys) found
 -- the items of a list, unless there are too many or one passes a limit
 abbrev pub limited : {B : Type 0} → (B → Bool) → Option (List B) → Result (List B) ValueFault
 limited within None = Err Unsupported
-limited within (Some xs) = (if nat_lt 32 (length xs) then Err BoundItems else if list_all within xs then Ok xs else Err Bound)
+limited within (Some xs) = (if nat_lt MAX_ITEMS (length xs) then Err BoundItems else if list_all within xs then Ok xs else Err Bound)
 
 -- what was found, unless there is none or it passes a limit
 abbrev pub judged : {B : Type 0} → (B → Bool) → Option B → Result B ValueFault

@@ -1,4 +1,4 @@
--- The spellings of timing lists (CSS Transitions 1, section 2; CSS Animations 1, section 4).
+-- The spellings of timing lists (CSS Transitions 1, "Transitions"; CSS Animations 1, "Declaring Animations").
 use Rattle.std.specs.Prelude.{◌≡◌, ℕ, ◌<◌, ◌≤◌, ℤ, pos, ◌≤ℤ◌, Bool, ◌||◌, if◌then◌else◌, List, [], ◌∷◌, ◌++◌, length, codes, IsTrue, Option, None, Some, Result, Ok, Err, ⊤}
 use Rattle.fix_num.specs.Rounded.{StandsNear}
 use Rattle.fix_num.specs.declared.units.Micros.{Micros}
@@ -7,7 +7,9 @@ use Rattle.token_parts.specs.Parts.{Piece, Ident, Number, Dimension, Comma}
 use Rattle.token_parts.specs.declared.fault.ValueFault.{ValueFault}
 use Rattle.token_parts.specs.declared.fault.ValueFault.TheVariants.{Unsupported, BoundItems, Bound, NoMemory}
 use Rattle.value_types.specs.ListValues.{IsListValueFor}
+use Rattle.value_types.specs.Names.{is_animation_name, is_reserved}
 use Rattle.value_types.specs.Properties.{property_named}
+use Rattle.value_types.specs.declared.limits.TheConstants.{MAX_ITEMS}
 use Rattle.value_types.specs.declared.list_value.ListName.{ListName}
 use Rattle.value_types.specs.declared.list_value.ListName.TheVariants as list
 use Rattle.value_types.specs.declared.list_value.ListValue.{ListValue}
@@ -33,26 +35,26 @@ use Rattle.list_text.specs.Easings.{IsEasingSpelling}
 abbrev pub IsWord : {T : Type 0} → (List ℕ → Option T) → List Piece → T → Type 0
 IsWord meaning parts x = (w : List ℕ) × (parts ≡ Ident w ∷ []) × (meaning w ≡ Some x)
 
+-- the directions by keyword
 abbrev pub direction_words : List (List ℕ × Direction)
 direction_words = (codes "normal", Normal) ∷ (codes "reverse", Reverse) ∷ (codes "alternate", Alternate)
     ∷ (codes "alternate-reverse", AlternateReverse) ∷ []
 
+-- the fill modes by keyword
 abbrev pub fill_words : List (List ℕ × Fill)
 fill_words = (codes "none", Nothing) ∷ (codes "forwards", Forwards) ∷ (codes "backwards", Backwards) ∷ (codes "both", Both) ∷ []
 
+-- the play states by keyword
 abbrev pub state_words : List (List ℕ × PlayState)
 state_words = (codes "running", Running) ∷ (codes "paused", Paused) ∷ []
 
+-- the shorthands but `all` by keyword
 abbrev pub shorthand_words : List (List ℕ × Shorthand)
 shorthand_words = (codes "background", Background) ∷ (codes "inset", Inset) ∷ (codes "margin", Margin) ∷ (codes "padding", Padding) ∷ []
 
--- a keyword of the cascade, which is no item of a list
-abbrev pub is_of_cascade : List ℕ → Bool
-is_of_cascade w = names w (codes "initial") || names w (codes "unset") || names w (codes "inherit")
-
--- an animation's name: `none`, or any other word as it is written
+-- an animation's name, as it is written, or `none`
 abbrev pub name_of_word : List ℕ → Option (Option (List ℕ))
-name_of_word w = (if is_of_cascade w then None else if names w (codes "none") then Some None else Some (Some w))
+name_of_word w = (if names w (codes "none") then Some None else if is_animation_name w then Some (Some w) else None)
 
 -- the property, else the shorthand that has the name
 abbrev pub known : Option PropertyId → Option Shorthand → PropertyItem
@@ -60,10 +62,10 @@ known (Some p) s = item.Property p
 known None (Some s) = item.Short s
 known None None = item.Unknown
 
--- what transitions: `none` is no item
+-- what transitions: `none` and the keywords of the cascade are no items
 abbrev pub property_of_word : List ℕ → Option PropertyItem
 property_of_word w =
-    (if is_of_cascade w || names w (codes "none") then None
+    (if is_reserved w then None
     else if names w (codes "all") then Some item.All
     else Some (known (property_named w) (look_up shorthand_words w)))
 
@@ -72,6 +74,7 @@ pub data IsTime : List Piece → ℤ → Type 0 where
   seconds : (n u : List ℕ) (v : ℤ) → IsTrue (names u (codes "s")) → StandsNear 6 n v → IsTime (Dimension n u ∷ []) v
   milliseconds : (n u : List ℕ) (v : ℤ) → IsTrue (names u (codes "ms")) → StandsNear 3 n v → IsTime (Dimension n u ∷ []) v
 
+-- a delay is any time
 abbrev pub IsDelaySpelling : List Piece → Micros → Type 0
 IsDelaySpelling parts t = IsTime parts t.0
 
@@ -130,8 +133,8 @@ item_count (States xs) = length xs
 
 -- the answer of the reader of these parts, unless memory runs out
 abbrev pub IsListAnswer : ListName → List Piece → Result ListValue ValueFault → Type 0
-IsListAnswer name parts (Ok v) = IsListSpelling name parts v × (item_count v ≤ 32) × IsListValueFor name v
+IsListAnswer name parts (Ok v) = IsListSpelling name parts v × (item_count v ≤ MAX_ITEMS) × IsListValueFor name v
 IsListAnswer name parts (Err Unsupported) = (v : ListValue) → IsListSpelling name parts v → ⊥
-IsListAnswer name parts (Err BoundItems) = (v : ListValue) × IsListSpelling name parts v × (32 < item_count v)
-IsListAnswer name parts (Err Bound) = (v : ListValue) × IsListSpelling name parts v × (item_count v ≤ 32) × (IsListValueFor name v → ⊥)
+IsListAnswer name parts (Err BoundItems) = (v : ListValue) × IsListSpelling name parts v × (MAX_ITEMS < item_count v)
+IsListAnswer name parts (Err Bound) = (v : ListValue) × IsListSpelling name parts v × (item_count v ≤ MAX_ITEMS) × (IsListValueFor name v → ⊥)
 IsListAnswer name parts (Err NoMemory) = ⊤

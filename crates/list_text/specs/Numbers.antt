@@ -1,4 +1,4 @@
--- Numbers of values (CSS Values 4, section 5), as large as they may be.
+-- Numbers of values (CSS Values 4, "Numeric Data Types"), as large as they may be.
 use Rattle.std.specs.Prelude.{ℕ, ◌+◌, ◌==◌, ℤ, pos, negsuc, unsigned_abs, Bool, true, false, not, nat_le, if◌then◌else◌, List, IsTrue, Option, None, Some, option_map}
 use Rattle.std.specs.List.{list_all}
 use Rattle.fix_num.specs.Decimal.{decimal_of, is_minus, signed_number}

@@ -9,10 +9,12 @@ use Rattle.value_types.specs.declared.easing.Easing.{Easing}
 use Rattle.value_types.specs.declared.easing.Easing.TheVariants.{Linear, Cubic, Steps}
 use Rattle.value_types.specs.declared.easing.Jump.{Jump}
 use Rattle.value_types.specs.declared.easing.Jump.TheVariants.{End}
+use Rattle.value_types.specs.declared.limits.TheConstants.{MAX_ORDINATE, MAX_STEPS}
 use Rattle.list_text.specs.Numbers.{not_negative}
 use Rattle.list_text.specs.Easings.{easing_words, jump_words}
 
 infixl 10 ◌>>=◌
+-- the next step of what is there, and nothing where nothing is
 abbrev pub ◌>>=◌ : {A B : Type 0} → Option A → (A → Option B) → Option B
 None >>= f = None
 (Some x) >>= f = f x
@@ -26,7 +28,7 @@ abbrev pub number_at : List Piece → Option (List ℕ × List Piece)
 number_at (Number n ∷ ps) = Some (n, ps)
 number_at _ = None
 
--- what stands behind a comma
+-- what stands after a comma
 abbrev pub comma_at : List Piece → Option (List Piece)
 comma_at (Comma ∷ ps) = Some ps
 comma_at _ = None
@@ -41,7 +43,7 @@ abbrev pub is_close : List Piece → Bool
 is_close (Close ∷ []) = true
 is_close _ = false
 
--- the word behind a comma, with the bracket behind it
+-- the word after a comma, with the bracket after it
 abbrev pub last_word : List Piece → Option (List ℕ)
 last_word (Comma ∷ Ident w ∷ Close ∷ []) = Some w
 last_word _ = None
@@ -52,21 +54,25 @@ natural num places limit text = do
   v ← num places limit text
   not_negative v
 
+-- the jump that ends the arguments of a step easing
 unfoldable pub jump_of : List Piece → Option Jump
 jump_of parts = (if is_close parts then Some End else last_word parts >>= look_up jump_words)
 
+-- the step easing of that many steps
 unfoldable pub step_count : Numbers → List ℕ → Jump → Option Easing
 step_count num text jump =
     (if has_no_point text
-    then natural num 0 1000000 text >>= (λ n. if nat_le (fewest_steps jump) n then Some (Steps n jump) else None)
+    then natural num 0 MAX_STEPS text >>= (λ n. if nat_le (fewest_steps jump) n then Some (Steps n jump) else None)
     else None)
 
+-- the step easing of these arguments
 unfoldable pub steps_of : Numbers → List Piece → Option Easing
 steps_of num parts = do
   n ← number_at parts
   jump ← jump_of n.1
   step_count num n.0 jump
 
+-- a number from 0 to 1, in thousandths
 unfoldable pub abscissa : Numbers → List ℕ → Option ℤ
 abscissa num text = natural num 3 1000 text >>= (λ n. if nat_le n 1000 then Some (pos n) else None)
 
@@ -77,9 +83,10 @@ point_at num parts = do
   rest ← comma_at a.1
   b ← number_at rest
   x ← abscissa num a.0
-  y ← num 3 10000 b.0
+  y ← num 3 MAX_ORDINATE b.0
   Some (x, y, b.1)
 
+-- the curve of these arguments
 unfoldable pub curve_of : Numbers → List Piece → Option Easing
 curve_of num parts = do
   p ← point_at num parts
@@ -87,6 +94,7 @@ curve_of num parts = do
   q ← point_at num rest
   if is_close q.2 then Some (Cubic p.0 p.1 q.0 q.1) else None
 
+-- the easing that a function makes
 unfoldable pub function_of : Numbers → List ℕ → List Piece → Option Easing
 function_of num name parts =
     (if names name (codes "steps") then steps_of num parts
@@ -101,5 +109,5 @@ easing_of num _ = None
 -- its numbers that have a limit are within it
 abbrev pub easing_within : Easing → Bool
 easing_within Linear = true
-easing_within (Cubic x1 y1 x2 y2) = nat_le (unsigned_abs y1) 10000 && nat_le (unsigned_abs y2) 10000
-easing_within (Steps count jump) = nat_le count 1000000
+easing_within (Cubic x1 y1 x2 y2) = nat_le (unsigned_abs y1) MAX_ORDINATE && nat_le (unsigned_abs y2) MAX_ORDINATE
+easing_within (Steps count jump) = nat_le count MAX_STEPS

@@ -14,9 +14,14 @@ use fix_num::has_no_point;
 use css_token::Token;
 use std::alloc::Global;
 use token_parts::{Part, ValueFault, is_keyword, look_up, parts};
+use value_types::limits::{MAX_ORDINATE, MAX_STEPS};
 use value_types::{Easing, Jump};
 
-/// The easing that the tokens of the text spell (CSS Easing 1, section 2). `Unsupported`: none. `Bound`: a
+const MOST_STEPS: i64 = MAX_STEPS as i64;
+
+const HIGHEST: i64 = MAX_ORDINATE as i64;
+
+/// The easing that the tokens of the text spell (CSS Easing 1, "Easing functions"). `Unsupported`: none. `Bound`: a
 /// number of steps above 1,000,000 or an ordinate outside -10 to 10.
 pub fn read_easing(alloc: Global, text: &str, tokens: &[Token]) -> Result<Easing, ValueFault>
     requires { All (LiesWithin text.now) tokens.now }
@@ -43,9 +48,9 @@ pub(crate) fn is_within(easing: &Easing) -> bool
     match *easing {
         Easing::Linear => true,
         Easing::Cubic { y1, y2, .. } => {
-            y1.unsigned_abs() <= 10_000 && y2.unsigned_abs() <= 10_000
+            y1.unsigned_abs() <= MAX_ORDINATE && y2.unsigned_abs() <= MAX_ORDINATE
         }
-        Easing::Steps { count, .. } => count <= 1_000_000,
+        Easing::Steps { count, .. } => count <= MAX_STEPS,
     }
 }
 
@@ -150,7 +155,7 @@ fn step_count(number: &[u8], jump: Jump) -> Option<Easing>
     if !has_no_point(number) {
         return None;
     }
-    let count = natural(number, 0, 1_000_000)?;
+    let count = natural(number, 0, MOST_STEPS)?;
     if count < u64::from(fewest_steps(jump)) {
         return None;
     }
@@ -203,9 +208,9 @@ fn abscissa(number: &[u8]) -> Option<i32>
 }
 
 fn ordinate(number: &[u8]) -> Option<i32>
-    ensures { result ≡ clamped 3 10000 number.now }
+    ensures { result ≡ clamped 3 MAX_ORDINATE number.now }
 {
-    Some(clamped(number, 3, 10_000)? as i32)
+    Some(clamped(number, 3, HIGHEST)? as i32)
 }
 
 fn number_at<'a, 'b>(parts: &'b [Part<'a>]) -> Option<(&'a [u8], &'b [Part<'a>])>

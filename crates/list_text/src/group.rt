@@ -36,7 +36,7 @@ fn parts_items(inside: bool, part: &Part) -> bool
     !inside && matches!(part, Part::Comma)
 }
 
-/// Whether a bracket is open behind the part.
+/// Whether a bracket is open after the part.
 fn is_inside(inside: bool, part: &Part) -> bool
     ensures { result ≡ is_inside inside (seen part.now) }
 {

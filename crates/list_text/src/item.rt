@@ -1,21 +1,27 @@
 //! Items of timing lists.
-ghost use Rattle.std.specs.Prelude.{◌≡◌, ◌^◌, pos, Bool, List, Option, map, true, IfOk, option_map};
+ghost use Rattle.std.specs.Prelude.{◌≡◌, pos, Bool, List, Option, map, true, IfOk, option_map};
 ghost use Rattle.token_parts.specs.Keywords.{look_up};
 ghost use Rattle.token_parts.specs.Parts.{Piece, seen};
 ghost use Rattle.value_types.specs.declared.list_value.ListName.{ListName};
-ghost use Rattle.list_text.specs.Lists.{direction_words, fill_words, state_words, shorthand_words, is_of_cascade, name_of_word, property_of_word};
+ghost use Rattle.list_text.specs.Lists.{direction_words, fill_words, state_words, shorthand_words, name_of_word, property_of_word};
 ghost use Rattle.list_text.specs.Numbers.{clamped};
 ghost use Rattle.list_text.specs.Reading.{easing_of, easing_within, natural, word_of};
 ghost use Rattle.list_text.specs.ItemReading.{count_of, count_within, count_word, has_sign, micros_of, micros_within, time_of, time_with, word_item};
 
 use crate::easing;
 use crate::number::{clamped, natural};
+use fix_num::limits::{MAX_NUMBER, MAX_TIME};
 use fix_num::{Fix, Micros};
 use std::alloc::{AllocError, Global};
 use token_parts::{Part, is_keyword, look_up};
 use value_types::{
     Count, Direction, Easing, Fill, ListName, Name, PlayState, PropertyId, PropertyItem, Shorthand,
+    is_animation_name, is_reserved,
 };
+
+const LONGEST: i64 = MAX_TIME as i64;
+
+const MOST: i64 = MAX_NUMBER as i64;
 
 /// What stands between the commas of a list.
 pub(crate) trait Item: Drop + Sized {
@@ -55,11 +61,11 @@ impl Item for Option<Name> {
         let Some(word) = word_of(parts) else {
             return Ok(None);
         };
-        if is_of_cascade(word) {
-            return Ok(None);
-        }
         if is_keyword(word, b"none") {
             return Ok(Some(None));
+        }
+        if !is_animation_name(word) {
+            return Ok(None);
         }
         Ok(Some(Some(Name::from_bytes(alloc, word)?)))
     }
@@ -79,7 +85,7 @@ impl Item for Micros {
     }
 
     fn is_within(&self) -> bool {
-        self.0.unsigned_abs() <= 1_000_000_000_000_000
+        self.0.unsigned_abs() <= MAX_TIME
     }
 }
 
@@ -108,7 +114,7 @@ impl Item for Count {
 
     fn is_within(&self) -> bool {
         match *self {
-            Count::Times(number) => number.0.unsigned_abs() <= 1_000_000_000_000,
+            Count::Times(number) => number.0.unsigned_abs() <= MAX_NUMBER,
             Count::Infinite => true,
         }
     }
@@ -166,13 +172,6 @@ fn word_of<'a>(parts: &[Part<'a>]) -> Option<&'a [u8]>
     }
 }
 
-/// Whether the word is a keyword of the cascade.
-fn is_of_cascade(word: &[u8]) -> bool
-    ensures { result ≡ is_of_cascade word.now }
-{
-    is_keyword(word, b"initial") || is_keyword(word, b"unset") || is_keyword(word, b"inherit")
-}
-
 fn property_item(parts: &[Part]) -> Option<PropertyItem>
     ensures { result ≡ word_item property_of_word (map seen parts.now) }
 {
@@ -182,7 +181,7 @@ fn property_item(parts: &[Part]) -> Option<PropertyItem>
 fn property_of_word(word: &[u8]) -> Option<PropertyItem>
     ensures { result ≡ property_of_word word.now }
 {
-    if is_of_cascade(word) || is_keyword(word, b"none") {
+    if is_reserved(word) {
         return None;
     }
     if is_keyword(word, b"all") {
@@ -247,9 +246,9 @@ fn time_with(number: &[u8], unit: &[u8]) -> Option<i64>
     ensures { result ≡ time_with clamped number.now unit.now }
 {
     if is_keyword(unit, b"s") {
-        clamped(number, 6, 1_000_000_000_000_000)
+        clamped(number, 6, LONGEST)
     } else if is_keyword(unit, b"ms") {
-        clamped(number, 3, 1_000_000_000_000_000)
+        clamped(number, 3, LONGEST)
     } else {
         None
     }
@@ -275,9 +274,9 @@ fn count_word(word: &[u8]) -> Option<Count>
 }
 
 fn count_number(number: &[u8]) -> Option<Count>
-    ensures { result ≡ option_map (λ k. Count.Times (record { 0 = pos k })) (natural clamped 6 (10 ^ 12) number.now) }
+    ensures { result ≡ option_map (λ k. Count.Times (record { 0 = pos k })) (natural clamped 6 MAX_NUMBER number.now) }
 {
-    let count = natural(number, 6, 1_000_000_000_000)?;
+    let count = natural(number, 6, MOST)?;
     Some(Count::Times(Fix(count as i64)))
 }
 

@@ -13,10 +13,11 @@ use crate::item::Item;
 use css_token::Token;
 use std::alloc::{AllocError, Global};
 use token_parts::{Part, ValueFault, is_keyword, parts};
+use value_types::limits::MAX_ITEMS;
 use value_types::{Items, ListName, ListValue};
 
-/// The value of the timing list that the tokens of the text spell (CSS Transitions 1, section 2; CSS
-/// Animations 1, section 3). `Unsupported`: none. `BoundItems`: more than 32 items. `Bound`: a number past
+/// The value of the timing list that the tokens of the text spell (CSS Transitions 1, "Transitions"; CSS
+/// Animations 1, "Declaring Animations"). `Unsupported`: none. `BoundItems`: more than 32 items. `Bound`: a number past
 /// its limit. In this order.
 pub fn read_list(
     alloc: Global,
@@ -110,7 +111,7 @@ fn items_of<T: Item>(alloc: Global, name: ListName, parts: &[Part]) -> Result<It
     let Some(items) = found else {
         return Err(ValueFault::Unsupported);
     };
-    if items.len() > 32 {
+    if items.len() > MAX_ITEMS {
         return Err(ValueFault::BoundItems);
     }
     if !are_within(items.as_slice()) {

@@ -1,13 +1,11 @@
-//! How an interrupted transition is reversed: the factor by which the way back is shortened, and when the
-//! reversing transition starts and ends. `shortened(Bill(250_000_000), Bill(400_000_000))` is
-//! `Bill(850_000_000)`.
+//! Floor: values. Knows no element and no entry: how an interrupted transition is reversed, by which factor the
+//! way back is shortened and when the reversing transition starts and ends.
+//!
+//! `shortened(Bill(250_000_000), Bill(400_000_000))` is `Bill(850_000_000)`.
 #![tactic(auto)]
 
 mod factor;
 mod laws;
-mod part;
-#[cfg(test)]
-mod tests;
 mod times;
 
 pub use factor::shortened;

@@ -1,8 +1,9 @@
 -- Names that a user gives (CSS Values 4, "Author-defined Identifiers: the <custom-ident> type").
-use Rattle.std.specs.Prelude.{ℕ, Bool, not, List, [], ◌∷◌, codes, IsTrue, Option, IfSome}
-use Rattle.std.specs.List.{list_any}
+use Rattle.std.specs.Prelude.{ℕ, Bool, ◌&&◌, not, List, [], ◌∷◌, codes, IsTrue, Option, IfSome}
+use Rattle.std.specs.List.{list_all, list_any}
 use Rattle.std.specs.Str.{str_eq_ignore_ascii_case}
-use Rattle.css_token.specs.Productions.{IsIdentifier}
+use Rattle.css_token.specs.Characters.{is_name}
+use Rattle.css_token.specs.Productions.{IsIdentifier, begins_identifier}
 
 -- the identifier `_`
 abbrev pub underscore : List ℕ
@@ -25,6 +26,10 @@ is_reserved word = list_any (str_eq_ignore_ascii_case word) reserved_words
 pub record IsAnimationName (name : List ℕ) : Type 0 where
   pub identifier : IsIdentifier name
   pub free : IsTrue (not (is_reserved name))
+
+-- the same as a test
+abbrev pub is_animation_name : List ℕ → Bool
+is_animation_name name = begins_identifier name && list_all is_name name && not (is_reserved name)
 
 -- an item of animation-name: such a name, or none
 abbrev pub IsNameItem : Option (List ℕ) → Type 0

@@ -34,7 +34,7 @@ pub use laws::{
     initial_values_are_valid, names_read_back, numbers_follow_names, numbers_read_back,
 };
 pub use list_value::{ListName, ListValue};
-pub use name::{Name, is_reserved};
+pub use name::{Name, is_animation_name, is_reserved};
 pub use property::PropertyId;
 pub use range::ValueRange;
 pub use same::Same;

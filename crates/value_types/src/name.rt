@@ -2,9 +2,10 @@
 
 ghost use Rattle.std.specs.Prelude.{◌≡◌, IfOk, IsTrue};
 ghost use Rattle.css_token.specs.Productions.{IsIdentifier};
-ghost use Rattle.value_types.specs.Names.{is_reserved, underscore};
+ghost use Rattle.value_types.specs.Names.{IsAnimationName, is_animation_name, is_reserved, underscore};
 
 use crate::items::Items;
+use css_token::is_identifier;
 use std::alloc::{AllocError, Global};
 use std::marker::Model;
 
@@ -76,6 +77,15 @@ pub fn is_reserved(word: &[u8]) -> bool
         || word.eq_ignore_ascii_case(b"initial")
         || word.eq_ignore_ascii_case(b"inherit")
         || word.eq_ignore_ascii_case(b"unset")
+}
+
+/// Whether the word is the name of an animation: an identifier that isn't reserved.
+#[tactic(auto, using(crate::proofs::NameLemmas::animation_name_told))]
+pub fn is_animation_name(word: &[u8]) -> bool
+    ensures value { result ≡ is_animation_name word.now }
+    ensures name { IsTrue result → IsAnimationName word.now }
+{
+    is_identifier(word) && !is_reserved(word)
 }
 
 fn copy_name(alloc: Global, name: &Option<Name>) -> Result<Option<Name>, AllocError>

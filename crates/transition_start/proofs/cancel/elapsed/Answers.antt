@@ -4,7 +4,7 @@ use Rattle.std.specs.Int.{w64}
 use Rattle.std.proofs.lemmas.Int.{to_z-of_z}
 use mir.Val.{SFits}
 use Rattle.transition_start.proofs.Times.{difference_fits, moment_small}
-use Rattle.transition_start.proofs.cancel.elapsed_at.Goals as goal
+use Rattle.transition_start.proofs.cancel.elapsed.Goals as goal
 
 pub returns : goal.returns
 returns c =

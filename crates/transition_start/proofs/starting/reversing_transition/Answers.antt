@@ -3,7 +3,7 @@ use Rattle.std.specs.Prelude.{ℤ, pos, ◌+ℤ◌, ◌≤ℤ◌, unsigned_abs}
 use Rattle.std.proofs.lemmas.Int.{ints}
 use Rattle.reversing.specs.Reversal.{part_of, reversed_start}
 use Rattle.reversing.proofs.Parts.{further, part_within}
-use Rattle.transition_start.proofs.starting.reversed.Goals as goal
+use Rattle.transition_start.proofs.starting.reversing_transition.Goals as goal
 
 pub new-requires : goal.new-requires
 new-requires c =
