@@ -1,5 +1,5 @@
 -- Lists of which one item is changed.
-use Rattle.std.proofs.Common.{◌≡◌, ℕ, zero, suc, ◌<◌, refl, sym, ap, arith, subst}
+use Rattle.std.proofs.Common.{◌≡◌, ℕ, zero, suc, ◌<◌, refl, ap, arith}
 use Rattle.std.specs.Prelude.{List, [], ◌∷◌, All, AllPairs, length, slice_index_or, set}
 use Rattle.style_data.specs.TransitionSets.{changed_at}
 

@@ -1,6 +1,6 @@
 -- Declarations as they are kept, read and put.
 use Rattle.std.proofs.Common.{◌≡◌, Bor, ℕ, suc, refl, ap, subst, arith, rules}
-use Rattle.std.specs.Prelude.{◌==◌, nat_eq, Bool, List, ◌∷◌, [], All, true, false, cond, find, map, option_map, Option, None, Some, IfSome, option_copied, length, insert, Result, Ok, Err, OnOk}
+use Rattle.std.specs.Prelude.{nat_eq, Bool, List, ◌∷◌, [], All, true, false, cond, find, map, option_map, Option, None, Some, IfSome, option_copied, length, insert, Result, Ok, Err, OnOk}
 use Rattle.std.specs.Bool.{OnTrue}
 use Rattle.value_types.specs.ListValues.{IsListValueFor}
 use Rattle.value_types.specs.Properties.{all_properties}

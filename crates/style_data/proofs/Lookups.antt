@@ -1,6 +1,6 @@
 -- Looking up what is kept for a property.
 use Rattle.std.proofs.Common.{◌≡◌, ℕ, zero, suc, ◌<◌, refl, sym, ◌∙◌, ap, arith, rules, inl, inr, subst}
-use Rattle.std.specs.Prelude.{◌≢◌, ◌⊎◌, ◌↔◌, Bool, true, false, nat_eq, List, [], ◌∷◌, All, AllPairs, length, slice_index_or, Option, None, Some, IfSome, IsNone, option_map, find, cond}
+use Rattle.std.specs.Prelude.{◌⊎◌, ◌↔◌, Bool, true, false, nat_eq, List, [], ◌∷◌, All, AllPairs, Option, None, Some, IfSome, IsNone, option_map, find, cond}
 use Rattle.std.specs.List.{Contains}
 use Rattle.value_types.specs.Properties.{number_of}
 use Rattle.value_types.specs.declared.property.PropertyId.{PropertyId}

@@ -1,6 +1,6 @@
 -- Values that are given on top of others.
-use Rattle.std.proofs.Common.{◌≡◌, ℕ, ◌<◌, refl, sym, ◌∙◌, ap, inl, inr, arith, rules, subst}
-use Rattle.std.specs.Prelude.{◌≢◌, Bool, true, false, cond, nat_eq, List, [], ◌∷◌, ◌++◌, All, find, length, option_map, set, unwrap_or, Option, None, Some, IfSome}
+use Rattle.std.proofs.Common.{◌≡◌, ℕ, refl, sym, ◌∙◌, ap, inl, inr, arith, rules}
+use Rattle.std.specs.Prelude.{◌≢◌, Bool, true, false, cond, nat_eq, List, [], ◌∷◌, ◌++◌, find, length, option_map, set, unwrap_or, Option, None, Some, IfSome}
 use Rattle.std.proofs.lemmas.Bool.{cases_eq}
 use Rattle.std.proofs.lemmas.List.{get_or-set_other, get_or-set_same, length-set}
 use Rattle.value_types.specs.Properties.{number_of}
@@ -11,7 +11,7 @@ use Rattle.value_types.specs.declared.value.Value.TheVariants.{Auto}
 use Rattle.style_data.specs.ByProperty.{kept_for}
 use Rattle.style_data.specs.Styles.{AreGiven, AreValid, value_at, values_with}
 use Rattle.style_data.proofs.Lookups.{found_has}
-use Rattle.style_data.proofs.Tables.{number_small, same_property}
+use Rattle.style_data.proofs.Tables.{number_small}
 
 pub length-values_with : (vs : List Value) (given : List (PropertyId × Value)) → length (values_with vs given) ≡ length vs
 length-values_with vs [] = refl
@@ -33,11 +33,11 @@ pub value_at-values_with : (vs : List Value) (given : List (PropertyId × Value)
 value_at-values_with vs [] p count = refl
 value_at-values_with vs (g ∷ given) p count = elim (cases_eq (number_of g.0) (number_of p)) [
   | inl at ↦
-    rw (kept_by g given p true (like (number_of g.0) (number_of p) at), at)
-    (get_or-set_same (values_with vs given) (number_of p) g.1 Auto (rw (length-values_with vs given, count) (number_small p)))
+      rw (kept_by g given p true (like (number_of g.0) (number_of p) at), at)
+      (get_or-set_same (values_with vs given) (number_of p) g.1 Auto (rw (length-values_with vs given, count) (number_small p)))
   | inr off ↦
-    rw (kept_by g given p false (unlike (number_of g.0) (number_of p) off))
-    (get_or-set_other (values_with vs given) (number_of g.0) (number_of p) g.1 Auto (λ e. off (sym e)) ∙ value_at-values_with vs given p count)
+      rw (kept_by g given p false (unlike (number_of g.0) (number_of p) off))
+      (get_or-set_other (values_with vs given) (number_of g.0) (number_of p) g.1 Auto (λ e. off (sym e)) ∙ value_at-values_with vs given p count)
 ]
 
 -- values given in two steps

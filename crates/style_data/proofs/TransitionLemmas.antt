@@ -1,6 +1,6 @@
 -- Sets of transitions that grow by one.
 use Rattle.std.proofs.Common.{◌≡◌, ℕ, ◌<◌, arith}
-use Rattle.std.specs.Prelude.{◌≢◌, All, AllPairs, List, get_or, [], ◌∷◌, ◌++◌}
+use Rattle.std.specs.Prelude.{◌≢◌, All, get_or, [], ◌∷◌, ◌++◌}
 use Rattle.std.proofs.lemmas.List.Elements.{All-push}
 use Rattle.std.proofs.lemmas.List.Quantifiers.{all_pairs_push}
 use Rattle.value_types.specs.Properties.{number_of}

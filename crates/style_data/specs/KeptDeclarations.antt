@@ -1,5 +1,5 @@
 -- Declarations as they are kept: what is declared alone.
-use Rattle.std.specs.Prelude.{List, All, map, Option}
+use Rattle.std.specs.Prelude.{List, All, map}
 use Rattle.value_types.specs.ListValues.{IsListValueFor}
 use Rattle.value_types.specs.Properties.{all_properties}
 use Rattle.value_types.specs.Validity.{IsDeclaredFor}

@@ -1,4 +1,4 @@
-use Rattle.std.proofs.Common.{◌≡◌, ℕ, ◌<◌, arith, refl}
+use Rattle.std.proofs.Common.{◌≡◌, arith, refl}
 use borrow.Author.Count.{below_more}
 use Rattle.value_types.specs.declared.list_value.ListName.{ListName}
 use Rattle.style_data.proofs.Tables.{place_small}
@@ -18,5 +18,5 @@ pub returns : goal.returns
 returns c =
     let all = c.loop-name.invariant.all (omega arith) in
     let each : (p : ListName) → list_winners_of c.args.a.now p ≡ list_winners_of c.args.b.now p =
-      λ p. every_list (λ q. list_winners_of c.args.a.now q ≡ list_winners_of c.args.b.now q) p (c.loop-name.invariant.each (place_of p) (omega (arith, place_small p, c.loop-name-test.false))) in
+    λ p. every_list (λ q. list_winners_of c.args.a.now q ≡ list_winners_of c.args.b.now q) p (c.loop-name.invariant.each (place_of p) (omega (arith, place_small p, c.loop-name-test.false))) in
     (λ _. same_by_list c.args.a.now.lists c.args.b.now.lists no_list_winners all.0.list_count all.1.list_count each, λ _. refl)

@@ -1,5 +1,3 @@
-use Rattle.std.proofs.Common.{◌∙◌, ap}
-use Rattle.std.specs.Prelude.{set}
 use Rattle.style_data.proofs.Changes.{set-changed}
 use Rattle.style_data.proofs.effects.see_at.Goals as goal
 

@@ -1,4 +1,4 @@
-use Rattle.std.proofs.Common.{◌≡◌, ℕ, ◌<◌, arith, refl}
+use Rattle.std.proofs.Common.{◌≡◌, arith, refl}
 use borrow.Author.Count.{below_more}
 use Rattle.value_types.specs.Properties.{number_of}
 use Rattle.value_types.specs.declared.property.PropertyId.{PropertyId}
@@ -20,5 +20,5 @@ pub returns : goal.returns
 returns c =
     let all = c.loop-p.invariant.all (omega arith) in
     let each : (p : PropertyId) → value_of c.args.a.now p ≡ value_of c.args.b.now p =
-      λ p. every_property (λ q. value_of c.args.a.now q ≡ value_of c.args.b.now q) p (c.loop-p.invariant.each (number_of p) (omega (arith, number_small p, c.loop-p-test.false))) in
+    λ p. every_property (λ q. value_of c.args.a.now q ≡ value_of c.args.b.now q) p (c.loop-p.invariant.each (number_of p) (omega (arith, number_small p, c.loop-p-test.false))) in
     (λ _. same_by_property c.args.a.now.values c.args.b.now.values Auto all.0.count all.1.count each, λ _. refl)

@@ -1,4 +1,3 @@
-use Rattle.style_data.specs.declared.animation.AnimationState.{AnimationState}
 use Rattle.std.specs.Prelude.{◌<◌}
 use Rattle.style_data.proofs.Changes.{AllPairs-changed_at}
 use Rattle.style_data.proofs.effects.Effects.see_animation.Goals as goal

@@ -1,4 +1,3 @@
-use Rattle.std.proofs.Common.{ap, ◌∙◌}
 use Rattle.std.specs.Prelude.{unwrap_or}
 use Rattle.style_data.specs.Styles.{initial_style}
 use Rattle.style_data.proofs.StyleLemmas.{values_with-append}
