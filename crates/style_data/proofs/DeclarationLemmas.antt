@@ -10,46 +10,46 @@ use Rattle.value_types.specs.declared.list_value.ListName.{ListName}
 use Rattle.value_types.specs.declared.list_value.ListValue.{ListValue}
 use Rattle.value_types.specs.declared.property.PropertyId.{PropertyId}
 use Rattle.style_data.specs.ByProperty.{kept_for}
-use Rattle.style_data.specs.KeptDeclarations.{AreKept, ListDeclarations, PropertyDeclarations, declared_by, list_winners_in, winners_in}
+use Rattle.style_data.specs.KeptDeclarations.{AreKept, ListDeclarations, PropertyDeclarations, declarations_in, list_winners_in, winners_in}
 use Rattle.style_data.specs.Winners.{AreDeclarations, all_lists, declarations, place_of, kept_for_list, list_winner_of, list_winners_of, no_declarations, no_list_winners, no_winners, winners_of, with_declaration, with_list_declaration}
 use Rattle.style_data.proofs.EveryProperty.{at_list, at_property, put_list, put_property}
 use Rattle.style_data.proofs.Lookups.{found_has}
 use Rattle.style_data.proofs.Tables.{same_list}
 
-pub winners_of-declared_by : (i n : PropertyDeclarations) (il nl : ListDeclarations) (p : PropertyId) → winners_of (declared_by i n il nl) p ≡ winners_in i n p
-unfolding declared_by
-winners_of-declared_by i n il nl p = at_property (winners_in i n) no_winners p
+pub winners_of-declarations_in : (i n : PropertyDeclarations) (il nl : ListDeclarations) (p : PropertyId) → winners_of (declarations_in i n il nl) p ≡ winners_in i n p
+unfolding declarations_in
+winners_of-declarations_in i n il nl p = at_property (winners_in i n) no_winners p
 
-pub list_winners_of-declared_by : (i n : PropertyDeclarations) (il nl : ListDeclarations) (name : ListName)
-    → list_winners_of (declared_by i n il nl) name ≡ list_winners_in il nl name
-unfolding declared_by
-list_winners_of-declared_by i n il nl name = at_list (list_winners_in il nl) no_list_winners name
+pub list_winners_of-declarations_in : (i n : PropertyDeclarations) (il nl : ListDeclarations) (name : ListName)
+    → list_winners_of (declarations_in i n il nl) name ≡ list_winners_in il nl name
+unfolding declarations_in
+list_winners_of-declarations_in i n il nl name = at_list (list_winners_in il nl) no_list_winners name
 
-pub none_declared : declared_by [] [] [] [] ≡ no_declarations
-unfolding declared_by
+pub none_declared : declarations_in [] [] [] [] ≡ no_declarations
+unfolding declarations_in
 none_declared = refl
 
 pub put_important : (i n : PropertyDeclarations) (il nl : ListDeclarations) (p : PropertyId) (v : Declared)
-    → declared_by ((p, v) ∷ i) n il nl ≡ with_declaration (declared_by i n il nl) p true v
-unfolding declared_by
+    → declarations_in ((p, v) ∷ i) n il nl ≡ with_declaration (declarations_in i n il nl) p true v
+unfolding declarations_in
 put_important i n il nl p v =
     rw (at_property (winners_in i n) no_winners p) (ap (λ t. declarations t (map (list_winners_in il nl) all_lists)) (put_property (λ o q. record { important = o; normal = kept_for q n }) i v p))
 
 pub put_normal : (i n : PropertyDeclarations) (il nl : ListDeclarations) (p : PropertyId) (v : Declared)
-    → declared_by i ((p, v) ∷ n) il nl ≡ with_declaration (declared_by i n il nl) p false v
-unfolding declared_by
+    → declarations_in i ((p, v) ∷ n) il nl ≡ with_declaration (declarations_in i n il nl) p false v
+unfolding declarations_in
 put_normal i n il nl p v =
     rw (at_property (winners_in i n) no_winners p) (ap (λ t. declarations t (map (list_winners_in il nl) all_lists)) (put_property (λ o q. record { important = kept_for q i; normal = o }) n v p))
 
 pub put_important_list : (i n : PropertyDeclarations) (il nl : ListDeclarations) (name : ListName) (v : ListValue)
-    → declared_by i n ((name, v) ∷ il) nl ≡ with_list_declaration (declared_by i n il nl) name true v
-unfolding declared_by
+    → declarations_in i n ((name, v) ∷ il) nl ≡ with_list_declaration (declarations_in i n il nl) name true v
+unfolding declarations_in
 put_important_list i n il nl name v =
     rw (at_list (list_winners_in il nl) no_list_winners name) (ap (λ t. declarations (map (winners_in i n) all_properties) t) (put_list (λ o q. record { important = o; normal = kept_for_list q nl }) il v name))
 
 pub put_normal_list : (i n : PropertyDeclarations) (il nl : ListDeclarations) (name : ListName) (v : ListValue)
-    → declared_by i n il ((name, v) ∷ nl) ≡ with_list_declaration (declared_by i n il nl) name false v
-unfolding declared_by
+    → declarations_in i n il ((name, v) ∷ nl) ≡ with_list_declaration (declarations_in i n il nl) name false v
+unfolding declarations_in
 put_normal_list i n il nl name v =
     rw (at_list (list_winners_in il nl) no_list_winners name) (ap (λ t. declarations (map (winners_in i n) all_properties) t) (put_list (λ o q. record { important = kept_for_list q il; normal = o }) nl v name))
 
@@ -90,18 +90,18 @@ pub IfSome-copied : {A : Type 0} (o : Option (Bor A)) (P : A → Type 0) → IfS
 IfSome-copied None P h = tt
 IfSome-copied (Some b) P h = h
 
-pub are_declarations : (i n : PropertyDeclarations) (il nl : ListDeclarations) → AreKept i n il nl → AreDeclarations (declared_by i n il nl)
-unfolding declared_by
+pub are_declarations : (i n : PropertyDeclarations) (il nl : ListDeclarations) → AreKept i n il nl → AreDeclarations (declarations_in i n il nl)
+unfolding declarations_in
 are_declarations i n il nl kept = record {
   count = refl;
   list_count = refl;
-  each = λ p. rw (winners_of-declared_by i n il nl p) record {
+  each = λ p. rw (winners_of-declarations_in i n il nl p) record {
     important = found_has IsDeclaredFor i p (kept_for p i) refl kept.important;
     normal = found_has IsDeclaredFor n p (kept_for p n) refl kept.normal;
   };
-  each_list = λ name important. elim important as (λ b. IfSome (list_winner_of (declared_by i n il nl) name b) (IsListValueFor name)) [
-    | true ↦ rw (list_winners_of-declared_by i n il nl name) (kept_for_list-has IsListValueFor il name kept.important_lists)
-    | false ↦ rw (list_winners_of-declared_by i n il nl name) (kept_for_list-has IsListValueFor nl name kept.normal_lists)
+  each_list = λ name important. elim important as (λ b. IfSome (list_winner_of (declarations_in i n il nl) name b) (IsListValueFor name)) [
+    | true ↦ rw (list_winners_of-declarations_in i n il nl name) (kept_for_list-has IsListValueFor il name kept.important_lists)
+    | false ↦ rw (list_winners_of-declarations_in i n il nl name) (kept_for_list-has IsListValueFor nl name kept.normal_lists)
   ];
 }
 

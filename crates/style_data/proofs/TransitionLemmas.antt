@@ -8,7 +8,7 @@ use Rattle.value_types.specs.declared.property.PropertyId.{PropertyId}
 use Rattle.style_data.specs.declared.transition.Completed.{Completed}
 use Rattle.style_data.specs.declared.transition.Phase.{Phase}
 use Rattle.style_data.specs.declared.transition.Transition.{Transition}
-use Rattle.style_data.proofs.Changes.{All-changed_at, AllPairs-changed_at}
+use Rattle.style_data.proofs.Changes.{All-with_changed_item, AllPairs-with_changed_item}
 use Rattle.style_data.specs.Kept.{IsCompletedFor, IsKeptFor}
 use Rattle.style_data.specs.TransitionSets.{AreTransitions, ComesLast, TransitionSet, transition_set, with_seen}
 use Rattle.style_data.specs.ByProperty.{IsBefore}
@@ -46,9 +46,9 @@ pub seen_keeps : (t : TransitionSet) (i : ℕ) (seen : Phase) → AreTransitions
 seen_keeps t i seen are =
     let f : PropertyId × Transition → PropertyId × Transition = λ r. (r.0, record r.1 { seen = seen }) in
     record {
-      running = All-changed_at f (λ r. IsKeptFor r.0 r.1) (λ r k. kept_seen r.0 r.1 seen k) t.running i are.running;
+      running = All-with_changed_item f (λ r. IsKeptFor r.0 r.1) (λ r k. kept_seen r.0 r.1 seen k) t.running i are.running;
       completed = are.completed;
-      running_ascend = AllPairs-changed_at f IsBefore (λ x y r. r) (λ x y r. r) t.running i are.running_ascend;
+      running_ascend = AllPairs-with_changed_item f IsBefore (λ x y r. r) (λ x y r. r) t.running i are.running_ascend;
       completed_ascend = are.completed_ascend;
-      apart = All-changed_at f (λ r. All (λ c. number_of r.0 ≢ number_of c.0) t.completed) (λ r k. k) t.running i are.apart;
+      apart = All-with_changed_item f (λ r. All (λ c. number_of r.0 ≢ number_of c.0) t.completed) (λ r k. k) t.running i are.apart;
     }

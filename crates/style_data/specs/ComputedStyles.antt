@@ -18,7 +18,7 @@ use Rattle.value_types.specs.declared.value.Value.{Value}
 use Rattle.value_types.specs.declared.value.Value.TheVariants.{Length}
 use Rattle.style_data.specs.ByProperty.{kept_for}
 use Rattle.style_data.specs.DeclaredItems.{counts_or, directions_or, easings_or, fills_or, names_or, properties_or, states_or, times_or}
-use Rattle.style_data.specs.Styles.{ComputedStyle, pixels_of, style_of}
+use Rattle.style_data.specs.Styles.{ComputedStyle, pixels_of_length, style_of_values}
 use Rattle.style_data.specs.Winners.{Declarations, list_winners_of, winners_of}
 use Rattle.style_data.specs.declared.inherited.InheritedValues.{InheritedValues}
 
@@ -49,7 +49,7 @@ pub record FontSizes : Type 0 where
 
 -- the root has the initial font size in place of its parent's
 abbrev pub parent_size : Option InheritedValues → Fix
-parent_size None = pixels_of (initial_value FontSize)
+parent_size None = pixels_of_length (initial_value FontSize)
 parent_size (Some parent) = parent.font_size
 
 -- the root's font size; that of the root is its own
@@ -111,7 +111,7 @@ computed_font_size x = cascaded_value x (font_sizes x.parent (parent_size x.pare
 -- the value of a property: relative lengths of the others are of that font size
 abbrev pub computed_value : StyleSources → PropertyId → Value
 computed_value x FontSize = computed_font_size x
-computed_value x p = cascaded_value x (font_sizes x.parent (pixels_of (computed_font_size x))) p
+computed_value x p = cascaded_value x (font_sizes x.parent (pixels_of_length (computed_font_size x))) p
 
 -- ---- the lists that time transitions and animations
 
@@ -140,4 +140,4 @@ animation_lists_of d = animation_values
 
 -- the computed style
 unfoldable pub computed_style : StyleSources → ComputedStyle
-computed_style x = style_of (map (computed_value x) all_properties) (transition_lists_of x.declared) (animation_lists_of x.declared)
+computed_style x = style_of_values (map (computed_value x) all_properties) (transition_lists_of x.declared) (animation_lists_of x.declared)

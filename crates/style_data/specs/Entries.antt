@@ -4,7 +4,7 @@ use Rattle.style_data.specs.declared.animation.AnimationState.{AnimationState}
 use Rattle.style_data.specs.declared.gone.Gone.{Gone}
 use Rattle.style_data.specs.declared.transition.Phase.{Phase}
 use Rattle.style_data.specs.Styles.{ComputedStyle, initial_style}
-use Rattle.style_data.specs.TransitionSets.{TransitionSet, changed_at, no_transitions}
+use Rattle.style_data.specs.TransitionSets.{TransitionSet, with_changed_item, no_transitions}
 use Rattle.style_data.specs.Winners.{Declarations, no_declarations}
 
 -- the animations ascend by their places in the list of names
@@ -26,7 +26,7 @@ no_effects = effect_lists no_transitions [] []
 
 -- the animation at a place of the list was last seen in this phase and iteration
 abbrev pub animation_seen_at : List AnimationState → ℕ → Phase → ℕ → List AnimationState
-animation_seen_at animations i seen iteration = changed_at (λ a. record a { seen = seen; iteration = iteration }) animations i
+animation_seen_at animations i seen iteration = with_changed_item (λ a. record a { seen = seen; iteration = iteration }) animations i
 
 -- whether a frame has styled the element, whether it was rendered at the last style change event, whether nothing of it will
 -- change by time alone; the declarations of that event, the current style that it gave, and the effects

@@ -26,8 +26,8 @@ abbrev pub list_winners_in : ListDeclarations → ListDeclarations → ListName 
 list_winners_in important normal name = record { important = kept_for_list name important; normal = kept_for_list name normal }
 
 -- the winners of each property and of each timing list
-unfoldable pub declared_by : PropertyDeclarations → PropertyDeclarations → ListDeclarations → ListDeclarations → Declarations
-declared_by important normal important_lists normal_lists =
+unfoldable pub declarations_in : PropertyDeclarations → PropertyDeclarations → ListDeclarations → ListDeclarations → Declarations
+declarations_in important normal important_lists normal_lists =
     declarations (map (winners_in important normal) all_properties) (map (list_winners_in important_lists normal_lists) all_lists)
 
 -- each declares its property

@@ -18,8 +18,8 @@ pub record ComputedStyle : Type 0 where
   pub transitions : TransitionValues
   pub animations : AnimationValues
 
-abbrev pub style_of : List Value → TransitionValues → AnimationValues → ComputedStyle
-style_of values transitions animations = record { values = values; transitions = transitions; animations = animations }
+abbrev pub style_of_values : List Value → TransitionValues → AnimationValues → ComputedStyle
+style_of_values values transitions animations = record { values = values; transitions = transitions; animations = animations }
 
 -- the value of a property, of values by number
 abbrev pub value_at : List Value → PropertyId → Value
@@ -39,7 +39,7 @@ abbrev pub initial_values : List Value
 initial_values = map initial_value all_properties
 
 abbrev pub initial_style : ComputedStyle
-initial_style = style_of initial_values initial_transitions initial_animations
+initial_style = style_of_values initial_values initial_transitions initial_animations
 
 -- ---- values that are given on top of a style, as transitions and animations give them
 
@@ -59,13 +59,13 @@ AreGiven given = All (λ g. IsValid g.0 g.1) given
 -- ---- inherited values
 
 -- the pixels of a length
-abbrev pub pixels_of : Value → Fix
-pixels_of (Length px pct) = px
-pixels_of _ = fix 0
+abbrev pub pixels_of_length : Value → Fix
+pixels_of_length (Length px pct) = px
+pixels_of_length _ = fix 0
 
 -- the font size
 abbrev pub font_size_of : ComputedStyle → Fix
-font_size_of s = pixels_of (value_of s FontSize)
+font_size_of s = pixels_of_length (value_of s FontSize)
 
 -- inherited values, each a value of its property
 pub record AreInherited (i : InheritedValues) : Type 0 where

@@ -54,14 +54,14 @@ kept_with t p running completed = transition_set (with_last p running t.running)
 -- ---- what was seen of them
 
 -- the item at a place of the list is changed so
-abbrev pub changed_at : {A : Type 0} → (A → A) → List A → ℕ → List A
-changed_at f [] i = []
-changed_at f (x ∷ xs) zero = f x ∷ xs
-changed_at f (x ∷ xs) (suc i) = x ∷ changed_at f xs i
+abbrev pub with_changed_item : {A : Type 0} → (A → A) → List A → ℕ → List A
+with_changed_item f [] i = []
+with_changed_item f (x ∷ xs) zero = f x ∷ xs
+with_changed_item f (x ∷ xs) (suc i) = x ∷ with_changed_item f xs i
 
 -- the running transition at a place was last seen in this phase
 abbrev pub seen_at : List (PropertyId × Transition) → ℕ → Phase → List (PropertyId × Transition)
-seen_at running i seen = changed_at (λ r. (r.0, record r.1 { seen = seen })) running i
+seen_at running i seen = with_changed_item (λ r. (r.0, record r.1 { seen = seen })) running i
 
 -- the set with that
 abbrev pub with_seen : TransitionSet → ℕ → Phase → TransitionSet

@@ -28,9 +28,9 @@ impl Model for Winning {
 
     ghost Value = { Declarations };
 
-    ghost use Rattle.style_data.specs.KeptDeclarations.{AreKept, declared_by};
+    ghost use Rattle.style_data.specs.KeptDeclarations.{AreKept, declarations_in};
 
-    ghost view = { λ w. declared_by w.important.items w.normal.items w.important_lists.items w.normal_lists.items };
+    ghost view = { λ w. declarations_in w.important.items w.normal.items w.important_lists.items w.normal_lists.items };
 
     ghost invariant = { λ w. AreKept w.important.items w.normal.items w.important_lists.items w.normal_lists.items };
 }

@@ -5,7 +5,7 @@ ghost use Rattle.value_types.specs.TimingLists.{initial_animations, initial_tran
 ghost use Rattle.value_types.specs.Ranges.{IsSize};
 ghost use Rattle.value_types.specs.Validity.{IsValid};
 ghost use Rattle.style_data.specs.ByProperty.{kept_for};
-ghost use Rattle.style_data.specs.Styles.{AreGiven, AreValid, font_size_of, inherited_of, initial_style, pixels_of, style_of, style_with, value_of};
+ghost use Rattle.style_data.specs.Styles.{AreGiven, AreValid, font_size_of, inherited_of, initial_style, pixels_of_length, style_of_values, style_with, value_of};
 
 use crate::inherited::{Inherited, InheritedValues};
 use crate::same::{time_animations_alike, time_transitions_alike};
@@ -28,11 +28,11 @@ struct Base {
 impl Model for Base {
     ghost use Rattle.std.specs.Prelude.{unwrap_or};
     ghost use Rattle.value_types.specs.TimingLists.{initial_animations, initial_transitions};
-    ghost use Rattle.style_data.specs.Styles.{ComputedStyle, AreValid, style_of};
+    ghost use Rattle.style_data.specs.Styles.{ComputedStyle, AreValid, style_of_values};
 
     ghost Value = { ComputedStyle };
 
-    ghost view = { λ s. style_of s.values (unwrap_or s.transitions initial_transitions) (unwrap_or s.animations initial_animations) };
+    ghost view = { λ s. style_of_values s.values (unwrap_or s.transitions initial_transitions) (unwrap_or s.animations initial_animations) };
 
     ghost invariant = { λ s. AreValid s.values };
 }
@@ -123,7 +123,7 @@ impl Style {
         animations: Option<Shared<AnimationLists>>,
     ) -> Result<Style, AllocError>
         requires { AreValid values }
-        ensures { IfOk result (λ s. s ≡ style_of values (unwrap_or transitions initial_transitions) (unwrap_or animations initial_animations)) }
+        ensures { IfOk result (λ s. s ≡ style_of_values values (unwrap_or transitions initial_transitions) (unwrap_or animations initial_animations)) }
     {
         let base = Base {
             values,
@@ -197,7 +197,7 @@ impl Style {
         ensures value { result ≡ font_size_of self.now }
         ensures bounds { IsSize result }
     {
-        pixels_of(self.value(PropertyId::FontSize))
+        pixels_of_length(self.value(PropertyId::FontSize))
     }
 
     /// What the elements below inherit, where the root has this font size, in millionths of a pixel.
@@ -301,8 +301,8 @@ fn have_same_value(a: &Style, b: &Style, p: PropertyId) -> bool
 }
 
 /// The pixels of a length.
-fn pixels_of(value: Value) -> Fix
-    ensures { result ≡ pixels_of value }
+fn pixels_of_length(value: Value) -> Fix
+    ensures { result ≡ pixels_of_length value }
 {
     match value {
         Value::Length { px, .. } => px,

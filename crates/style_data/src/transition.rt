@@ -7,8 +7,8 @@ use fix_num::{Bill, Micros};
 use std::marker::Model;
 use value_types::{Easing, Value};
 
-/// How far a transition or an animation was when events were last sent for it (Web Animations 1, section
-/// 4.5.5, "animation effect phases and states"); `Idle` before any.
+/// How far a transition or an animation was when events were last sent for it (Web Animations 1, "Animation effect
+/// phases and states"); `Idle` before any.
 #[derive(Clone, Copy, PartialEq, Eq)]
 pub enum Phase {
     Idle,
