@@ -20,7 +20,7 @@ use Rattle.value_types.specs.declared.range.ValueRange.TheVariants as range
 use Rattle.value_types.specs.declared.value.Value.TheVariants as value
 use Rattle.value_types.specs.Table.{fix, takes, range_of}
 use Rattle.value_types.specs.Ranges.{IsInRange, IsSize}
-use Rattle.value_types.specs.Validity.{IsDeclaredFor, IsDeclaredNumberFor, IsNumberFor, IsPercentFor, IsSizeFor, IsValid, declared_range_of, kind_of}
+use Rattle.value_types.specs.Validity.{IsDeclaredFor, IsDeclaredNumberFor, IsNumberFor, IsPercentFor, IsSizeFor, IsValid, declared_range_of, kind_of_unit}
 use Rattle.computed_value.specs.Absolute.{IsSpecified, computed_opacity, em_size_of, in_pixels, is_kept, percent_of, pixels_of, product_within, resolved_value, size_times}
 
 -- ---- products
@@ -99,7 +99,7 @@ length_range p h = (tt, refl)
 as_computed : (p : PropertyId) (n : Fix) → declared_range_of p ≡ range_of p → IsDeclaredNumberFor p n → IsNumberFor p n
 as_computed p n same d = record { limit = d.limit; in_range = subst (λ r. IsInRange r n) same d.in_range }
 
-percent_for : (p : PropertyId) (a : Fix) (u : «Unit») → IsTrue (takes p kind.Length) → IsTrue (takes p (kind_of u)) → IsNumberFor p a
+percent_for : (p : PropertyId) (a : Fix) (u : «Unit») → IsTrue (takes p kind.Length) → IsTrue (takes p (kind_of_unit u)) → IsNumberFor p a
     → IsPercentFor p (percent_of p (record { amount = a; unit = u }))
 percent_for property.BackgroundColor a u l k n = never l
 percent_for property.Color a u l k n = never l

@@ -13,7 +13,7 @@ use Rattle.value_types.specs.declared.value.Value.{Value}
 use Rattle.value_types.specs.declared.value.Value.TheVariants as value
 use Rattle.interpolation.specs.Colors.{alpha_between, color_with, channel_between}
 use Rattle.interpolation.specs.Equality.{is_same}
-use Rattle.interpolation.specs.Interpolation.{beside, by_parts, value_between, number_at, IsBetween}
+use Rattle.interpolation.specs.Interpolation.{counted_beside, by_parts, value_between, component_at, IsBetween}
 use Rattle.interpolation.specs.Numbers.{on_the_way, number_between, integer_between}
 use Rattle.interpolation.proofs.EqualityLemmas.{same_tells, same_as_itself}
 use Rattle.interpolation.proofs.NumberLemmas.{way_fits, clamped_fits}
@@ -55,11 +55,11 @@ color_is r g b a r' g' b' a' q alpha some = rw (unequal alpha.0 (pos 0) some) re
 
 -- the alpha of the colour at an output
 alpha_at : (r g b : ℕ) (a : Fix) (r' g' b' : ℕ) (a' : Fix) (q : ℤ) (alpha : Fix) (k : ℕ)
-    → number_at k (color_with r g b a r' g' b' a' q alpha) ≡ number_at k (value.Angle alpha)
+    → component_at k (color_with r g b a r' g' b' a' q alpha) ≡ component_at k (value.Angle alpha)
 unfolding color_with
 alpha_at r g b a r' g' b' a' q alpha k = go (int_eq alpha.0 (pos 0)) refl k where
   go : (t : Bool) → int_eq alpha.0 (pos 0) ≡ t → (k : ℕ)
-      → number_at k (if t then black (fix 0) else value.Color (channel_between r a r' a' q alpha) (channel_between g a g' a' q alpha) (channel_between b a b' a' q alpha) alpha) ≡ number_at k (value.Angle alpha)
+      → component_at k (if t then black (fix 0) else value.Color (channel_between r a r' a' q alpha) (channel_between g a g' a' q alpha) (channel_between b a b' a' q alpha) alpha) ≡ component_at k (value.Angle alpha)
   go true e zero = sym ((Decides-int_eq alpha.0 (pos 0)).0 e)
   go true e (suc k) = refl
   go false e k = refl
@@ -89,7 +89,7 @@ integer_fits p i j q low high h k =
     let second = k.1 in
     clamped_fits _ _ i j (on_the_way i j q) (omega (arith, ints)) (omega (arith, ints)) (omega (arith, ints)) (omega (arith, ints)) (way_fits i j q low high)
 
-same_number : (w v : Value) (k : ℕ) → number_at k (beside w v) ≡ number_at k v
+same_number : (w v : Value) (k : ℕ) → component_at k (counted_beside w v) ≡ component_at k v
 same_number (value.Angle n) value.Absent zero = refl
 same_number (value.Angle n) value.Absent (suc k) = refl
 same_number (value.Pair x xp y yp) value.Absent zero = refl
@@ -101,19 +101,19 @@ same_number w v k = refl
 
 -- the numbers of an angle, of a length and of a pair, with what lies between them
 one_fits : (a b v : ℤ) (k : ℕ) → IsBetween a b v
-    → IsBetween (number_at k (value.Int a)) (number_at k (value.Int b)) (number_at k (value.Int v))
+    → IsBetween (component_at k (value.Int a)) (component_at k (value.Int b)) (component_at k (value.Int v))
 one_fits a b v zero h = h
 one_fits a b v (suc k) h = at_first (pos 0) (pos 0)
 
 two_fit : (a a' b b' v v' : Fix) (k : ℕ) → IsBetween a.0 b.0 v.0 → IsBetween a'.0 b'.0 v'.0
-    → IsBetween (number_at k (value.Length a a')) (number_at k (value.Length b b')) (number_at k (value.Length v v'))
+    → IsBetween (component_at k (value.Length a a')) (component_at k (value.Length b b')) (component_at k (value.Length v v'))
 two_fit a a' b b' v v' zero h h' = h
 two_fit a a' b b' v v' (suc zero) h h' = h'
 two_fit a a' b b' v v' (suc (suc k)) h h' = at_first (pos 0) (pos 0)
 
 four_fit : (x xp y yp x' xp' y' yp' v vp w wp : Fix) (k : ℕ)
     → IsBetween x.0 x'.0 v.0 → IsBetween xp.0 xp'.0 vp.0 → IsBetween y.0 y'.0 w.0 → IsBetween yp.0 yp'.0 wp.0
-    → IsBetween (number_at k (value.Pair x xp y yp)) (number_at k (value.Pair x' xp' y' yp')) (number_at k (value.Pair v vp w wp))
+    → IsBetween (component_at k (value.Pair x xp y yp)) (component_at k (value.Pair x' xp' y' yp')) (component_at k (value.Pair v vp w wp))
 four_fit x xp y yp x' xp' y' yp' v vp w wp zero f g h i = f
 four_fit x xp y yp x' xp' y' yp' v vp w wp (suc zero) f g h i = g
 four_fit x xp y yp x' xp' y' yp' v vp w wp (suc (suc zero)) f g h i = h
@@ -121,7 +121,7 @@ four_fit x xp y yp x' xp' y' yp' v vp w wp (suc (suc (suc zero))) f g h i = i
 four_fit x xp y yp x' xp' y' yp' v vp w wp (suc (suc (suc (suc k)))) f g h i = at_first (pos 0) (pos 0)
 
 parts_fit : (p : PropertyId) (a b : Value) (q : ℤ) (k : ℕ) → IsValid p a → IsValid p b → pos 0 ≤ℤ q → q ≤ℤ pos (10 ^ 9)
-    → IsBetween (number_at k a) (number_at k b) (number_at k (by_parts p a b q))
+    → IsBetween (component_at k a) (component_at k b) (component_at k (by_parts p a b q))
 parts_fit p (value.Number m) (value.Number n) q k h i low high =
     one_fits m.0 n.0 _ k (number_fits p m n q low high (from_number p m h.1) (from_number p n i.1))
 parts_fit p (value.Length m mp) (value.Length n np) q k h i low high =
@@ -138,12 +138,12 @@ parts_fit p (value.Pair x xp y yp) (value.Pair x' xp' y' yp') q k h i low high =
     (fits x x' (from_number p x h.1) (from_number p x' i.1)) (fits xp xp' (from_number p xp h.2) (from_number p xp' i.2))
     (fits y y' (from_number p y h.3) (from_number p y' i.3)) (fits yp yp' (from_number p yp h.4) (from_number p yp' i.4))
 parts_fit p (value.Visible v) (value.Visible w) q k h i low high = at_first (pos 0) (pos 0)
-parts_fit p a b q k h i low high = at_first (number_at k a) (number_at k b)
+parts_fit p a b q k h i low high = at_first (component_at k a) (component_at k b)
 
 pub numbers_fit : (p : PropertyId) (a b : Value) (q : ℤ) (k : ℕ) → IsValid p a → IsValid p b → pos 0 ≤ℤ q → q ≤ℤ pos (10 ^ 9)
-    → IsBetween (number_at k a) (number_at k b) (number_at k (value_between p a b q))
+    → IsBetween (component_at k a) (component_at k b) (component_at k (value_between p a b q))
 numbers_fit p a b q k h i low high =
-    at_each_output (λ v. IsBetween (number_at k a) (number_at k b) (number_at k v)) p a b q (at_first (number_at k a) (number_at k b)) (at_second (number_at k a) (number_at k b))
-    (subst (λ (x : ℤ). IsBetween x (number_at k b) (number_at k (by_parts p (beside b a) (beside a b) q))) (same_number b a k)
-    (subst (λ (y : ℤ). IsBetween (number_at k (beside b a)) y (number_at k (by_parts p (beside b a) (beside a b) q))) (same_number a b k)
-    (parts_fit p (beside b a) (beside a b) q k (beside_valid p b a i h) (beside_valid p a b h i) low high)))
+    at_each_output (λ v. IsBetween (component_at k a) (component_at k b) (component_at k v)) p a b q (at_first (component_at k a) (component_at k b)) (at_second (component_at k a) (component_at k b))
+    (subst (λ (x : ℤ). IsBetween x (component_at k b) (component_at k (by_parts p (counted_beside b a) (counted_beside a b) q))) (same_number b a k)
+    (subst (λ (y : ℤ). IsBetween (component_at k (counted_beside b a)) y (component_at k (by_parts p (counted_beside b a) (counted_beside a b) q))) (same_number a b k)
+    (parts_fit p (counted_beside b a) (counted_beside a b) q k (beside_valid p b a i h) (beside_valid p a b h i) low high)))

@@ -17,9 +17,9 @@ use Rattle.value_types.specs.declared.range.ValueRange.{ValueRange}
 use Rattle.value_types.specs.declared.range.ValueRange.TheVariants.{All, NotNegative, ZeroToOne, Nothing}
 use Rattle.value_types.specs.declared.value.Value.{Value}
 use Rattle.value_types.specs.declared.value.Value.TheVariants as value
-use Rattle.interpolation.specs.Colors.{alpha_between, channel_of, color_with}
+use Rattle.interpolation.specs.Colors.{alpha_between, straight_channel, color_with}
 use Rattle.interpolation.specs.Equality.{is_same}
-use Rattle.interpolation.specs.Interpolation.{beside, by_parts, value_between}
+use Rattle.interpolation.specs.Interpolation.{counted_beside, by_parts, value_between}
 use Rattle.interpolation.specs.Numbers.{on_the_way, number_between, integer_between}
 use Rattle.fix_num.proofs.ClampLemmas.{clamped_low, clamped_high}
 
@@ -118,8 +118,8 @@ pub either : {T : Type 0} (P : T → Type 0) (b : Bool) (x y : T) → P x → P 
 either P true x y h k = h
 either P false x y h k = k
 
-channel_small : (v : ℤ) (alpha : Fix) → channel_of v alpha ≤ 255
-unfolding channel_of
+channel_small : (v : ℤ) (alpha : Fix) → straight_channel v alpha ≤ 255
+unfolding straight_channel
 channel_small v alpha =
     let channel = rounded_quotient v (bill.ONE.0 *ℤ alpha.0) in
     let low = clamped_low channel (pos 0) (pos 255) (omega (arith, ints)) in
@@ -134,7 +134,7 @@ color_valid p r g b a r' g' b' a' q alpha fits h =
     (h.0, record { red = omega arith; green = omega arith; blue = omega arith; alpha = (omega (arith, ints), omega (arith, ints)) })
     (h.0, record { red = channel_small _ alpha; green = channel_small _ alpha; blue = channel_small _ alpha; alpha = fits })
 
-pub beside_valid : (p : PropertyId) (w v : Value) → IsValid p w → IsValid p v → IsValid p (beside w v)
+pub beside_valid : (p : PropertyId) (w v : Value) → IsValid p w → IsValid p v → IsValid p (counted_beside w v)
 beside_valid p (value.Angle n) value.Absent h k = (h.0, zero_valid p)
 beside_valid p (value.Pair x xp y yp) value.Absent h k = (h.0, zero_valid p, zero_valid p, zero_valid p, zero_valid p)
 beside_valid p w v h k = k
@@ -152,10 +152,10 @@ parts_valid p (value.Visible v) (value.Visible w) q h k = h
 parts_valid p a b q h k = h
 
 -- what holds of the ends and of what stands between them by parts holds at every output
-pub at_each_output : (P : Value → Type 0) (p : PropertyId) (a b : Value) (q : ℤ) → P a → P b → P (by_parts p (beside b a) (beside a b) q) → P (value_between p a b q)
+pub at_each_output : (P : Value → Type 0) (p : PropertyId) (a b : Value) (q : ℤ) → P a → P b → P (by_parts p (counted_beside b a) (counted_beside a b) q) → P (value_between p a b q)
 unfolding value_between
 at_each_output P p a b q h k l = either P (int_eq q (pos 0) || is_same a b) a _ h (either P (int_eq q (pos (10 ^ 9))) b _ k l)
 
 pub value_valid : (p : PropertyId) (a b : Value) (q : ℤ) → IsValid p a → IsValid p b → IsValid p (value_between p a b q)
 value_valid p a b q h k =
-    at_each_output (IsValid p) p a b q h k (parts_valid p (beside b a) (beside a b) q (beside_valid p b a k h) (beside_valid p a b h k))
+    at_each_output (IsValid p) p a b q h k (parts_valid p (counted_beside b a) (counted_beside a b) q (beside_valid p b a k h) (beside_valid p a b h k))

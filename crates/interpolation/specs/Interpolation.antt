@@ -18,17 +18,17 @@ use Rattle.interpolation.specs.Numbers.{number_between, integer_between}
 -- ---- which values can be interpolated
 
 -- the kind of a value
-abbrev pub kind_of : Value → ValueKind
-kind_of (value.Number n) = kind.Number
-kind_of (value.Length px pct) = kind.Length
-kind_of value.Auto = kind.Auto
-kind_of (value.Int i) = kind.Int
-kind_of (value.Color r g b a) = kind.Color
-kind_of (value.Angle n) = kind.Angle
-kind_of (value.Pair x_px x_pct y_px y_pct) = kind.Pair
-kind_of value.Absent = kind.Absent
-kind_of (value.Visible v) = kind.Visibility
-kind_of (value.Display d) = kind.Display
+abbrev pub kind_of_value : Value → ValueKind
+kind_of_value (value.Number n) = kind.Number
+kind_of_value (value.Length px pct) = kind.Length
+kind_of_value value.Auto = kind.Auto
+kind_of_value (value.Int i) = kind.Int
+kind_of_value (value.Color r g b a) = kind.Color
+kind_of_value (value.Angle n) = kind.Angle
+kind_of_value (value.Pair x_px x_pct y_px y_pct) = kind.Pair
+kind_of_value value.Absent = kind.Absent
+kind_of_value (value.Visible v) = kind.Visibility
+kind_of_value (value.Display d) = kind.Display
 
 -- not hidden and not collapsed
 abbrev pub is_visible : Visibility → Bool
@@ -55,15 +55,15 @@ are_interpolable _ _ = false
 
 -- whether two values of the property can be interpolated; what is no value of the property can't
 abbrev pub is_interpolable : PropertyId → Value → Value → Bool
-is_interpolable p a b = takes p (kind_of a) && takes p (kind_of b) && are_interpolable a b
+is_interpolable p a b = takes p (kind_of_value a) && takes p (kind_of_value b) && are_interpolable a b
 
 -- ---- the value at an output
 
 -- v beside w: none counts as the zero of w's kind (CSS Transforms 2, interpolation of translate and rotate)
-abbrev pub beside : Value → Value → Value
-beside (value.Angle n) value.Absent = value.Angle (fix 0)
-beside (value.Pair x xp y yp) value.Absent = value.Pair (fix 0) (fix 0) (fix 0) (fix 0)
-beside w v = v
+abbrev pub counted_beside : Value → Value → Value
+counted_beside (value.Angle n) value.Absent = value.Angle (fix 0)
+counted_beside (value.Pair x xp y yp) value.Absent = value.Pair (fix 0) (fix 0) (fix 0) (fix 0)
+counted_beside w v = v
 
 -- visible all the way between the ends (Web Animations Level 1, animation of visibility)
 abbrev pub visibility_between : Visibility → Visibility → ℤ → Visibility
@@ -86,23 +86,23 @@ unfoldable pub value_between : PropertyId → Value → Value → ℤ → Value
 value_between p a b q =
     (if int_eq q (pos 0) || is_same a b then a
     else if int_eq q ONE.0 then b
-    else by_parts p (beside b a) (beside a b) q)
+    else by_parts p (counted_beside b a) (counted_beside a b) q)
 
 -- ---- what lies between the ends
 
 -- the numbers of a value: a colour's is its alpha, and keywords have none
-abbrev pub numbers_of : Value → List ℤ
-numbers_of (value.Number n) = n.0 ∷ []
-numbers_of (value.Length px pct) = px.0 ∷ pct.0 ∷ []
-numbers_of (value.Int i) = i ∷ []
-numbers_of (value.Color r g b a) = a.0 ∷ []
-numbers_of (value.Angle n) = n.0 ∷ []
-numbers_of (value.Pair x_px x_pct y_px y_pct) = x_px.0 ∷ x_pct.0 ∷ y_px.0 ∷ y_pct.0 ∷ []
-numbers_of _ = []
+abbrev pub components_of : Value → List ℤ
+components_of (value.Number n) = n.0 ∷ []
+components_of (value.Length px pct) = px.0 ∷ pct.0 ∷ []
+components_of (value.Int i) = i ∷ []
+components_of (value.Color r g b a) = a.0 ∷ []
+components_of (value.Angle n) = n.0 ∷ []
+components_of (value.Pair x_px x_pct y_px y_pct) = x_px.0 ∷ x_pct.0 ∷ y_px.0 ∷ y_pct.0 ∷ []
+components_of _ = []
 
 -- the k-th number of a value, or 0: so none counts as zero
-abbrev pub number_at : ℕ → Value → ℤ
-number_at k v = slice_index_or (numbers_of v) k (pos 0)
+abbrev pub component_at : ℕ → Value → ℤ
+component_at k v = slice_index_or (components_of v) k (pos 0)
 
 -- v lies between a and b
 pub record IsBetween (a b v : ℤ) : Type 0 where

@@ -1,7 +1,7 @@
 //! Colours at an output, by premultiplied channels (CSS Color 4, "Interpolating with Alpha").
 ghost use Rattle.std.specs.Prelude.{◌≡◌, ◌≤◌, ◌*◌, ◌^◌, pos, ◌*ℤ◌, ◌<ℤ◌, ◌≤ℤ◌, unsigned_abs};
 ghost use Rattle.value_types.specs.Validity.{IsAlpha};
-ghost use Rattle.interpolation.specs.Colors.{alpha_between, channel_between, channel_of, color_with, premultiplied, premultiplied_between};
+ghost use Rattle.interpolation.specs.Colors.{alpha_between, channel_between, straight_channel, color_with, premultiplied_channel, premultiplied_between};
 
 use crate::number::on_the_way;
 use fix_num::{Bill, Fix, clamp, rnd};
@@ -87,7 +87,7 @@ fn alpha_between(a: Fix, b: Fix, q: Bill) -> Fix
 /// The channel multiplied by its alpha.
 fn premultiplied(c: u8, alpha: Fix) -> i64
     requires { IsAlpha alpha }
-    ensures value { result ≡ premultiplied c alpha }
+    ensures value { result ≡ premultiplied_channel c alpha }
     ensures size { unsigned_abs result ≤ 255 * 10 ^ 6 }
 {
     i64::from(c) * alpha.0
@@ -115,12 +115,12 @@ fn scaled(difference: i64, q: i64) -> i128
 }
 
 /// The channel that is `v` billionths when it is premultiplied with the alpha.
-#[tactic(auto, unfolding(crate::specs::Colors::channel_of))]
+#[tactic(auto, unfolding(crate::specs::Colors::straight_channel))]
 fn channel_of(v: i128, alpha: Fix) -> u8
     requires size { unsigned_abs v ≤ 10 ^ 20 }
     requires alpha { IsAlpha alpha }
     requires some { pos 0 <ℤ alpha.0 }
-    ensures { result ≡ channel_of v alpha }
+    ensures { result ≡ straight_channel v alpha }
 {
     let one = i128::from(Bill::ONE.0) * i128::from(alpha.0);
     clamp(rnd(v, one), 0, 255) as u8

@@ -1,7 +1,7 @@
 //! Which values can be interpolated.
 ghost use Rattle.std.specs.Prelude.{◌≡◌, ◌↔◌, IsTrue};
 ghost use Rattle.interpolation.specs.Equality.{is_same};
-ghost use Rattle.interpolation.specs.Interpolation.{are_interpolable, is_interpolable, kind_of};
+ghost use Rattle.interpolation.specs.Interpolation.{are_interpolable, is_interpolable, kind_of_value};
 
 use value_types::{PropertyId, Value, ValueKind, Visibility, takes};
 
@@ -23,7 +23,7 @@ pub fn same(a: Value, b: Value) -> bool
 }
 
 fn kind_of(v: Value) -> ValueKind
-    ensures { result ≡ kind_of v }
+    ensures { result ≡ kind_of_value v }
 {
     match v {
         Value::Number(_) => ValueKind::Number,

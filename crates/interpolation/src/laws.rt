@@ -4,7 +4,7 @@ ghost use Rattle.value_types.specs.Validity.{IsValid};
 ghost use Rattle.value_types.specs.declared.property.PropertyId.{PropertyId};
 ghost use Rattle.value_types.specs.declared.value.Value.{Value};
 ghost use Rattle.interpolation.specs.Equality.{is_same};
-ghost use Rattle.interpolation.specs.Interpolation.{IsBetween, is_interpolable, number_at, value_between};
+ghost use Rattle.interpolation.specs.Interpolation.{IsBetween, is_interpolable, component_at, value_between};
 
 use fix_num::Bill;
 
@@ -37,5 +37,5 @@ pub fn valid_values_stay_valid()
 /// At an output from 0 to 1 each number, and the alpha of a colour, lies between those of the ends.
 pub fn numbers_stay_between()
     ensures { (p : PropertyId) (a b : Value) (q : ℤ) (k : ℕ) → IsValid p a → IsValid p b → pos 0 ≤ℤ q → q ≤ℤ Bill.ONE.0
-        → IsBetween (number_at k a) (number_at k b) (number_at k (value_between p a b q)) }
+        → IsBetween (component_at k a) (component_at k b) (component_at k (value_between p a b q)) }
 {}

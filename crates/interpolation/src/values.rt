@@ -2,7 +2,7 @@
 ghost use Rattle.std.specs.Prelude.{◌≡◌, ◌⊎◌, ◌≤◌, ◌*◌, ◌^◌, IsTrue, unsigned_abs};
 ghost use Rattle.value_types.specs.Validity.{IsValid};
 ghost use Rattle.value_types.specs.declared.property.PropertyId.{PropertyId};
-ghost use Rattle.interpolation.specs.Interpolation.{beside, by_parts, is_interpolable, kind_of, value_between, visibility_between};
+ghost use Rattle.interpolation.specs.Interpolation.{counted_beside, by_parts, is_interpolable, kind_of_value, value_between, visibility_between};
 
 use crate::color::{Rgba, rgba_between};
 use crate::interpolable::same;
@@ -33,7 +33,7 @@ pub fn between(p: PropertyId, a: Value, b: Value, q: Bill) -> Value
 
 /// `v`, or the zero of the kind of `w` where `v` is `none`.
 fn beside(w: Value, v: Value) -> Value
-    ensures value { result ≡ beside w v }
+    ensures value { result ≡ counted_beside w v }
     ensures valid { (p : PropertyId) → IsValid p w → IsValid p v → IsValid p result }
 {
     let zero = Fix(0);
@@ -75,7 +75,7 @@ fn by_parts(p: PropertyId, a: Value, b: Value, q: Bill) -> Value
 fn pair_between(p: PropertyId, a: Value, b: Value, q: Bill) -> Value
     requires from { IsValid p a }
     requires to { IsValid p b }
-    requires pairs { (kind_of a ≡ ValueKind.Pair) × (kind_of b ≡ ValueKind.Pair) }
+    requires pairs { (kind_of_value a ≡ ValueKind.Pair) × (kind_of_value b ≡ ValueKind.Pair) }
     requires output { unsigned_abs q.0 ≤ 4 * 10 ^ 10 }
     ensures { result ≡ by_parts p a b q.0 }
 {
@@ -107,7 +107,7 @@ fn pair_between(p: PropertyId, a: Value, b: Value, q: Bill) -> Value
 fn color_between(p: PropertyId, a: Value, b: Value, q: Bill) -> Value
     requires from { IsValid p a }
     requires to { IsValid p b }
-    requires colors { (kind_of a ≡ ValueKind.Color) × (kind_of b ≡ ValueKind.Color) }
+    requires colors { (kind_of_value a ≡ ValueKind.Color) × (kind_of_value b ≡ ValueKind.Color) }
     requires output { unsigned_abs q.0 ≤ 4 * 10 ^ 10 }
     ensures { result ≡ by_parts p a b q.0 }
 {

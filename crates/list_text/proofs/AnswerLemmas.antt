@@ -2,8 +2,8 @@
 use Rattle.std.proofs.Common.{◌≡◌, ℕ, ◌<◌, ◌≤◌, refl, arith, sym, subst, List, ◌∷◌, [], length, Bool, true, false, Option, Result, Ok, Err, codes}
 use Rattle.std.specs.Prelude.{All}
 use Rattle.std.proofs.lemmas.List.Elements.{All-cons, All-head, All-nil, All-tail}
-use Rattle.token_parts.specs.Keywords.{names, look_up}
-use Rattle.token_parts.specs.Parts.{Piece, Ident}
+use Rattle.token_parts.specs.Keywords.{is_keyword, look_up}
+use Rattle.token_parts.specs.Parts.{TokenPart, Ident}
 use Rattle.token_parts.specs.declared.fault.ValueFault.{ValueFault}
 use Rattle.token_parts.specs.declared.fault.ValueFault.TheVariants.{Unsupported, BoundItems, Bound, NoMemory}
 use Rattle.value_types.specs.ListValues.{IsListValueFor}
@@ -22,9 +22,9 @@ use Rattle.value_types.specs.declared.timing.Direction.{Direction}
 use Rattle.value_types.specs.declared.timing.Fill.{Fill}
 use Rattle.value_types.specs.declared.timing.PlayState.{PlayState}
 use Rattle.list_text.specs.Easings.{IsEasingSpelling}
-use Rattle.list_text.specs.Numbers.{clamped}
+use Rattle.list_text.specs.Numbers.{clamped_nearest}
 use Rattle.list_text.specs.Lists.{AreItems, AreItemsOf, IsCountSpelling, IsDelaySpelling, IsDurationSpelling, IsListAnswer, IsListSpelling, IsWord, direction_words, fill_words, initial, item_count, items, last, more, name_of_word, nothing, property_of_word, state_words}
-use Rattle.list_text.specs.ItemReading.{Gives, any, count_of, count_within, is_initial, is_word, items_of, list_of, micros_of, micros_within, properties_of, result_map, value_of, word_item}
+use Rattle.list_text.specs.ItemReading.{Gives, any, count_of, count_within, is_initial, is_word, items_of, list_of, micros_of, micros_within, properties_of, result_map, list_value_of, word_item}
 use Rattle.list_text.specs.Reading.{easing_of, easing_within}
 use Rattle.list_text.proofs.ListLemmas.{Answers, EachIs, answers, easing_judges, name_judges, word_judges}
 use Rattle.list_text.proofs.TimeLemmas.{count_judges, delay_judges, duration_judges}
@@ -32,27 +32,27 @@ use Rattle.list_text.proofs.TimeLemmas.{count_judges, delay_judges, duration_jud
 -- ---- the special words
 
 -- `none` for the properties
-abbrev pub is_nothing : ListName → List Piece → Bool
-is_nothing list.TransitionProperty parts = is_word (λ w. names w (codes "none")) parts
+abbrev pub is_nothing : ListName → List TokenPart → Bool
+is_nothing list.TransitionProperty parts = is_word (λ w. is_keyword w (codes "none")) parts
 is_nothing _ parts = false
 
 -- what is spelled without a special word is items
-split : {name : ListName} {parts : List Piece} {v : ListValue} → IsListSpelling name parts v → is_initial parts ≡ false → is_nothing name parts ≡ false → AreItemsOf name parts v
+split : {name : ListName} {parts : List TokenPart} {v : ListValue} → IsListSpelling name parts v → is_initial parts ≡ false → is_nothing name parts ≡ false → AreItemsOf name parts v
 split (initial name w is) h k = absurd (cc)
 split (nothing w is) h k = absurd (cc)
 split (items name parts v s) h k = s
 
-initial_answer : (name : ListName) (parts : List Piece) → is_initial parts ≡ true → IsListAnswer name parts (Ok Initial)
+initial_answer : (name : ListName) (parts : List TokenPart) → is_initial parts ≡ true → IsListAnswer name parts (Ok Initial)
 initial_answer name (Ident w ∷ []) h = (initial name w h, omega arith, tt)
 initial_answer name _ h = absurd (cc)
 
-nothing_answer : (parts : List Piece) → is_nothing list.TransitionProperty parts ≡ true → IsListAnswer list.TransitionProperty parts (Ok (Properties []))
+nothing_answer : (parts : List TokenPart) → is_nothing list.TransitionProperty parts ≡ true → IsListAnswer list.TransitionProperty parts (Ok (Properties []))
 nothing_answer (Ident w ∷ []) h = (nothing w h, omega arith, omega arith)
 nothing_answer _ h = absurd (cc)
 
 -- ---- one kind of items
 
-some_items : {T : Type 0} {P : List Piece → T → Type 0} {parts : List Piece} {xs : List T} → AreItems P parts xs → 0 < length xs
+some_items : {T : Type 0} {P : List TokenPart → T → Type 0} {parts : List TokenPart} {xs : List T} → AreItems P parts xs → 0 < length xs
 some_items (last parts x h) = omega arith
 some_items (more parts rest x xs h hs) = omega arith
 
@@ -72,14 +72,14 @@ is_list : {T : Type 0} (W : T → Type 0) (xs : List T) → 0 < length xs → le
 is_list W xs some few h = record { some = some; few = few; each = each_all W xs h }
 
 -- the values of the list are such items, and within its bounds where each item is
-pub record IsSort {T : Type 0} (name : ListName) (P : List Piece → T → Type 0) (W : T → Type 0) (C : List T → ListValue) : Type 0 where
-  pub only : (parts : List Piece) (v : ListValue) → AreItemsOf name parts v → (xs : List T) × (v ≡ C xs) × AreItems P parts xs
-  pub are : (parts : List Piece) (xs : List T) → AreItems P parts xs → AreItemsOf name parts (C xs)
+pub record IsSort {T : Type 0} (name : ListName) (P : List TokenPart → T → Type 0) (W : T → Type 0) (C : List T → ListValue) : Type 0 where
+  pub only : (parts : List TokenPart) (v : ListValue) → AreItemsOf name parts v → (xs : List T) × (v ≡ C xs) × AreItems P parts xs
+  pub are : (parts : List TokenPart) (xs : List T) → AreItems P parts xs → AreItemsOf name parts (C xs)
   pub size : (xs : List T) → item_count (C xs) ≡ length xs
   pub fits : (xs : List T) → 0 < length xs → length xs ≤ 32 → EachIs W xs → IsListValueFor name (C xs)
   pub fitted : (xs : List T) → IsListValueFor name (C xs) → EachIs W xs
 
-sort_answer : {T : Type 0} (name : ListName) (P : List Piece → T → Type 0) (W : T → Type 0) (C : List T → ListValue) (parts : List Piece) (r : Result (List T) ValueFault)
+sort_answer : {T : Type 0} (name : ListName) (P : List TokenPart → T → Type 0) (W : T → Type 0) (C : List T → ListValue) (parts : List TokenPart) (r : Result (List T) ValueFault)
     → IsSort name P W C → Answers P W parts r → is_initial parts ≡ false → is_nothing name parts ≡ false → IsListAnswer name parts (result_map C r)
 sort_answer name P W C parts (Ok xs) s a one none =
     let k = a.ok xs refl in
@@ -96,51 +96,51 @@ sort_answer name P W C parts (Err NoMemory) s a one none = tt
 
 -- ---- the twelve lists
 
-properties_only : (parts : List Piece) (v : ListValue) → AreItemsOf list.TransitionProperty parts v → (xs : List PropertyItem) × (v ≡ Properties xs) × AreItems (IsWord property_of_word) parts xs
+properties_only : (parts : List TokenPart) (v : ListValue) → AreItemsOf list.TransitionProperty parts v → (xs : List PropertyItem) × (v ≡ Properties xs) × AreItems (IsWord property_of_word) parts xs
 properties_only parts (Properties xs) h = (xs, refl, h)
 properties_only parts _ h = absurd h
 
-transition_durations_only : (parts : List Piece) (v : ListValue) → AreItemsOf list.TransitionDuration parts v → (xs : List Micros) × (v ≡ Times xs) × AreItems IsDurationSpelling parts xs
+transition_durations_only : (parts : List TokenPart) (v : ListValue) → AreItemsOf list.TransitionDuration parts v → (xs : List Micros) × (v ≡ Times xs) × AreItems IsDurationSpelling parts xs
 transition_durations_only parts (Times xs) h = (xs, refl, h)
 transition_durations_only parts _ h = absurd h
 
-transition_delays_only : (parts : List Piece) (v : ListValue) → AreItemsOf list.TransitionDelay parts v → (xs : List Micros) × (v ≡ Times xs) × AreItems IsDelaySpelling parts xs
+transition_delays_only : (parts : List TokenPart) (v : ListValue) → AreItemsOf list.TransitionDelay parts v → (xs : List Micros) × (v ≡ Times xs) × AreItems IsDelaySpelling parts xs
 transition_delays_only parts (Times xs) h = (xs, refl, h)
 transition_delays_only parts _ h = absurd h
 
-transition_easings_only : (parts : List Piece) (v : ListValue) → AreItemsOf list.TransitionEasing parts v → (xs : List Easing) × (v ≡ Easings xs) × AreItems IsEasingSpelling parts xs
+transition_easings_only : (parts : List TokenPart) (v : ListValue) → AreItemsOf list.TransitionEasing parts v → (xs : List Easing) × (v ≡ Easings xs) × AreItems IsEasingSpelling parts xs
 transition_easings_only parts (Easings xs) h = (xs, refl, h)
 transition_easings_only parts _ h = absurd h
 
-animation_names_only : (parts : List Piece) (v : ListValue) → AreItemsOf list.AnimationName parts v → (xs : List (Option (List ℕ))) × (v ≡ Names xs) × AreItems (IsWord name_of_word) parts xs
+animation_names_only : (parts : List TokenPart) (v : ListValue) → AreItemsOf list.AnimationName parts v → (xs : List (Option (List ℕ))) × (v ≡ Names xs) × AreItems (IsWord name_of_word) parts xs
 animation_names_only parts (Names xs) h = (xs, refl, h)
 animation_names_only parts _ h = absurd h
 
-animation_durations_only : (parts : List Piece) (v : ListValue) → AreItemsOf list.AnimationDuration parts v → (xs : List Micros) × (v ≡ Times xs) × AreItems IsDurationSpelling parts xs
+animation_durations_only : (parts : List TokenPart) (v : ListValue) → AreItemsOf list.AnimationDuration parts v → (xs : List Micros) × (v ≡ Times xs) × AreItems IsDurationSpelling parts xs
 animation_durations_only parts (Times xs) h = (xs, refl, h)
 animation_durations_only parts _ h = absurd h
 
-animation_delays_only : (parts : List Piece) (v : ListValue) → AreItemsOf list.AnimationDelay parts v → (xs : List Micros) × (v ≡ Times xs) × AreItems IsDelaySpelling parts xs
+animation_delays_only : (parts : List TokenPart) (v : ListValue) → AreItemsOf list.AnimationDelay parts v → (xs : List Micros) × (v ≡ Times xs) × AreItems IsDelaySpelling parts xs
 animation_delays_only parts (Times xs) h = (xs, refl, h)
 animation_delays_only parts _ h = absurd h
 
-animation_easings_only : (parts : List Piece) (v : ListValue) → AreItemsOf list.AnimationEasing parts v → (xs : List Easing) × (v ≡ Easings xs) × AreItems IsEasingSpelling parts xs
+animation_easings_only : (parts : List TokenPart) (v : ListValue) → AreItemsOf list.AnimationEasing parts v → (xs : List Easing) × (v ≡ Easings xs) × AreItems IsEasingSpelling parts xs
 animation_easings_only parts (Easings xs) h = (xs, refl, h)
 animation_easings_only parts _ h = absurd h
 
-animation_counts_only : (parts : List Piece) (v : ListValue) → AreItemsOf list.AnimationCount parts v → (xs : List Count) × (v ≡ Counts xs) × AreItems IsCountSpelling parts xs
+animation_counts_only : (parts : List TokenPart) (v : ListValue) → AreItemsOf list.AnimationCount parts v → (xs : List Count) × (v ≡ Counts xs) × AreItems IsCountSpelling parts xs
 animation_counts_only parts (Counts xs) h = (xs, refl, h)
 animation_counts_only parts _ h = absurd h
 
-animation_directions_only : (parts : List Piece) (v : ListValue) → AreItemsOf list.AnimationDirection parts v → (xs : List Direction) × (v ≡ Directions xs) × AreItems (IsWord (look_up direction_words)) parts xs
+animation_directions_only : (parts : List TokenPart) (v : ListValue) → AreItemsOf list.AnimationDirection parts v → (xs : List Direction) × (v ≡ Directions xs) × AreItems (IsWord (look_up direction_words)) parts xs
 animation_directions_only parts (Directions xs) h = (xs, refl, h)
 animation_directions_only parts _ h = absurd h
 
-animation_fills_only : (parts : List Piece) (v : ListValue) → AreItemsOf list.AnimationFill parts v → (xs : List Fill) × (v ≡ Fills xs) × AreItems (IsWord (look_up fill_words)) parts xs
+animation_fills_only : (parts : List TokenPart) (v : ListValue) → AreItemsOf list.AnimationFill parts v → (xs : List Fill) × (v ≡ Fills xs) × AreItems (IsWord (look_up fill_words)) parts xs
 animation_fills_only parts (Fills xs) h = (xs, refl, h)
 animation_fills_only parts _ h = absurd h
 
-animation_states_only : (parts : List Piece) (v : ListValue) → AreItemsOf list.AnimationPlayState parts v → (xs : List PlayState) × (v ≡ States xs) × AreItems (IsWord (look_up state_words)) parts xs
+animation_states_only : (parts : List TokenPart) (v : ListValue) → AreItemsOf list.AnimationPlayState parts v → (xs : List PlayState) × (v ≡ States xs) × AreItems (IsWord (look_up state_words)) parts xs
 animation_states_only parts (States xs) h = (xs, refl, h)
 animation_states_only parts _ h = absurd h
 
@@ -180,7 +180,7 @@ animation_fills_sort = record { only = animation_fills_only; are = λ parts xs h
 animation_states_sort : IsSort list.AnimationPlayState (IsWord (look_up state_words)) IsAny States
 animation_states_sort = record { only = animation_states_only; are = λ parts xs h. h; size = λ xs. refl; fits = is_list IsAny; fitted = λ xs h. each_any xs }
 
-property_answer : (parts : List Piece) (b : Bool) → is_initial parts ≡ false → is_nothing list.TransitionProperty parts ≡ b
+property_answer : (parts : List TokenPart) (b : Bool) → is_initial parts ≡ false → is_nothing list.TransitionProperty parts ≡ b
     → IsListAnswer list.TransitionProperty parts (properties_of parts)
 unfolding properties_of
 property_answer parts true one none = rw none (nothing_answer parts none)
@@ -188,24 +188,24 @@ property_answer parts false one none =
     rw none (sort_answer list.TransitionProperty (IsWord property_of_word) IsAny Properties parts (items_of (word_item property_of_word) any parts) properties_sort
     (answers (IsWord property_of_word) IsAny (word_item property_of_word) any (word_judges property_of_word) parts) one none)
 
-value_answer : (name : ListName) (parts : List Piece) → is_initial parts ≡ false → IsListAnswer name parts (value_of name parts)
+value_answer : (name : ListName) (parts : List TokenPart) → is_initial parts ≡ false → IsListAnswer name parts (list_value_of name parts)
 value_answer list.TransitionProperty parts one = property_answer parts (is_nothing list.TransitionProperty parts) one refl
 value_answer list.TransitionDuration parts one =
-    sort_answer list.TransitionDuration IsDurationSpelling IsDuration Times parts (items_of (micros_of clamped false) micros_within parts) transition_durations_sort (answers IsDurationSpelling IsDuration (micros_of clamped false) micros_within duration_judges parts) one refl
+    sort_answer list.TransitionDuration IsDurationSpelling IsDuration Times parts (items_of (micros_of clamped_nearest false) micros_within parts) transition_durations_sort (answers IsDurationSpelling IsDuration (micros_of clamped_nearest false) micros_within duration_judges parts) one refl
 value_answer list.TransitionDelay parts one =
-    sort_answer list.TransitionDelay IsDelaySpelling IsDelay Times parts (items_of (micros_of clamped true) micros_within parts) transition_delays_sort (answers IsDelaySpelling IsDelay (micros_of clamped true) micros_within delay_judges parts) one refl
+    sort_answer list.TransitionDelay IsDelaySpelling IsDelay Times parts (items_of (micros_of clamped_nearest true) micros_within parts) transition_delays_sort (answers IsDelaySpelling IsDelay (micros_of clamped_nearest true) micros_within delay_judges parts) one refl
 value_answer list.TransitionEasing parts one =
-    sort_answer list.TransitionEasing IsEasingSpelling IsEasing Easings parts (items_of (easing_of clamped) easing_within parts) transition_easings_sort (answers IsEasingSpelling IsEasing (easing_of clamped) easing_within easing_judges parts) one refl
+    sort_answer list.TransitionEasing IsEasingSpelling IsEasing Easings parts (items_of (easing_of clamped_nearest) easing_within parts) transition_easings_sort (answers IsEasingSpelling IsEasing (easing_of clamped_nearest) easing_within easing_judges parts) one refl
 value_answer list.AnimationName parts one =
     sort_answer list.AnimationName (IsWord name_of_word) IsNameItem Names parts (items_of (word_item name_of_word) any parts) animation_names_sort (answers (IsWord name_of_word) IsNameItem (word_item name_of_word) any name_judges parts) one refl
 value_answer list.AnimationDuration parts one =
-    sort_answer list.AnimationDuration IsDurationSpelling IsDuration Times parts (items_of (micros_of clamped false) micros_within parts) animation_durations_sort (answers IsDurationSpelling IsDuration (micros_of clamped false) micros_within duration_judges parts) one refl
+    sort_answer list.AnimationDuration IsDurationSpelling IsDuration Times parts (items_of (micros_of clamped_nearest false) micros_within parts) animation_durations_sort (answers IsDurationSpelling IsDuration (micros_of clamped_nearest false) micros_within duration_judges parts) one refl
 value_answer list.AnimationDelay parts one =
-    sort_answer list.AnimationDelay IsDelaySpelling IsDelay Times parts (items_of (micros_of clamped true) micros_within parts) animation_delays_sort (answers IsDelaySpelling IsDelay (micros_of clamped true) micros_within delay_judges parts) one refl
+    sort_answer list.AnimationDelay IsDelaySpelling IsDelay Times parts (items_of (micros_of clamped_nearest true) micros_within parts) animation_delays_sort (answers IsDelaySpelling IsDelay (micros_of clamped_nearest true) micros_within delay_judges parts) one refl
 value_answer list.AnimationEasing parts one =
-    sort_answer list.AnimationEasing IsEasingSpelling IsEasing Easings parts (items_of (easing_of clamped) easing_within parts) animation_easings_sort (answers IsEasingSpelling IsEasing (easing_of clamped) easing_within easing_judges parts) one refl
+    sort_answer list.AnimationEasing IsEasingSpelling IsEasing Easings parts (items_of (easing_of clamped_nearest) easing_within parts) animation_easings_sort (answers IsEasingSpelling IsEasing (easing_of clamped_nearest) easing_within easing_judges parts) one refl
 value_answer list.AnimationCount parts one =
-    sort_answer list.AnimationCount IsCountSpelling IsCount Counts parts (items_of (count_of clamped) count_within parts) animation_counts_sort (answers IsCountSpelling IsCount (count_of clamped) count_within count_judges parts) one refl
+    sort_answer list.AnimationCount IsCountSpelling IsCount Counts parts (items_of (count_of clamped_nearest) count_within parts) animation_counts_sort (answers IsCountSpelling IsCount (count_of clamped_nearest) count_within count_judges parts) one refl
 value_answer list.AnimationDirection parts one =
     sort_answer list.AnimationDirection (IsWord (look_up direction_words)) IsAny Directions parts (items_of (word_item (look_up direction_words)) any parts) animation_directions_sort (answers (IsWord (look_up direction_words)) IsAny (word_item (look_up direction_words)) any (word_judges (look_up direction_words)) parts) one refl
 value_answer list.AnimationFill parts one =
@@ -215,14 +215,14 @@ value_answer list.AnimationPlayState parts one =
 
 -- ---- any list
 
-list_answer_at : (name : ListName) (parts : List Piece) (b : Bool) → is_initial parts ≡ b → IsListAnswer name parts (list_of name parts)
+list_answer_at : (name : ListName) (parts : List TokenPart) (b : Bool) → is_initial parts ≡ b → IsListAnswer name parts (list_of name parts)
 list_answer_at name parts true h = rw h (initial_answer name parts h)
 list_answer_at name parts false h = rw h (value_answer name parts h)
 
-pub list_answer_of : (name : ListName) (parts : List Piece) → IsListAnswer name parts (list_of name parts)
+pub list_answer_of : (name : ListName) (parts : List TokenPart) → IsListAnswer name parts (list_of name parts)
 list_answer_of name parts = list_answer_at name parts (is_initial parts) refl
 
-pub list_answer : (name : ListName) (parts : List Piece) (r : Result ListValue ValueFault) → Gives (λ v. v) r (list_of name parts) → IsListAnswer name parts r
+pub list_answer : (name : ListName) (parts : List TokenPart) (r : Result ListValue ValueFault) → Gives (λ v. v) r (list_of name parts) → IsListAnswer name parts r
 list_answer name parts (Ok v) h = subst (IsListAnswer name parts) h (list_answer_of name parts)
 list_answer name parts (Err Unsupported) h = subst (IsListAnswer name parts) h (list_answer_of name parts)
 list_answer name parts (Err BoundItems) h = subst (IsListAnswer name parts) h (list_answer_of name parts)

@@ -7,18 +7,19 @@ use Rattle.std.proofs.lemmas.Int.{ints}
 use Rattle.fix_num.specs.Integer.{has_no_point}
 use Rattle.fix_num.specs.Rounded.{StandsNear}
 use Rattle.fix_num.proofs.IntegerLemmas.{integer_near, integer_stands}
-use Rattle.token_parts.specs.Keywords.{names, look_up}
+use Rattle.token_parts.specs.Keywords.{is_keyword, look_up}
 use Rattle.token_parts.specs.declared.fault.ValueFault.TheVariants.{Bound}
-use Rattle.token_parts.specs.Parts.{Piece, Ident, Function, Number, Comma, Close}
+use Rattle.token_parts.specs.Parts.{TokenPart, Ident, Function, Number, Comma, Close}
 use Rattle.value_types.specs.Timing.{IsControlPoint, IsEasing, fewest_steps}
 use Rattle.value_types.specs.declared.easing.Easing.{Easing}
 use Rattle.value_types.specs.declared.easing.Easing.TheVariants.{Linear, Cubic, Steps}
 use Rattle.value_types.specs.declared.easing.Jump.{Jump}
 use Rattle.value_types.specs.declared.easing.Jump.TheVariants.{Start, End, Both, Nowhere}
-use Rattle.list_text.specs.Numbers.{clamp, clamped, nearest}
+use Rattle.list_text.specs.Numbers.{clamp, clamped_nearest, nearest}
 use Rattle.list_text.specs.Easings.{IsAbscissa, IsEasingAnswer, IsEasingSpelling, IsStepCount, curve, easing_words, jump_words, steps, steps_and_jump, word}
-use Rattle.list_text.specs.ItemReading.{easing_read, judged}
-use Rattle.list_text.specs.Reading.{◌>>=◌, Numbers, abscissa, comma_at, curve_of, easing_of, easing_within, function_of, is_close, jump_of, natural, point_at, step_count, steps_of}
+use Rattle.list_text.specs.ItemReading.{easing_read, judgement_of}
+use Rattle.token_parts.specs.Steps.{◌>>=◌, after_comma}
+use Rattle.list_text.specs.Reading.{Numbers, abscissa, curve_of, easing_of, easing_within, function_of, is_close, jump_of, natural, point_at, step_count, steps_of}
 use Rattle.token_parts.proofs.KeywordLemmas.{AllRows, of_row, only_one}
 use Rattle.list_text.proofs.OptionLemmas.{bound, passed}
 use Rattle.list_text.proofs.ViewLemmas.{Reads, as_it_is, at_limits, clamped_was, natural_found, natural_was, plain, same_test, sizes}
@@ -32,7 +33,7 @@ view_easing view (Steps count jump) = Steps (unsigned_abs (view 1000000 (pos cou
 -- ---- what the reader finds is spelled so
 
 -- an easing that the parts spell, of which this is the clamped one
-abbrev pub Spelled : List Piece → Easing → Type 0
+abbrev pub Spelled : List TokenPart → Easing → Type 0
 Spelled parts e = (w : Easing) × IsEasingSpelling parts w × (view_easing clamp w ≡ e)
 
 words_kept : AllRows (λ e. view_easing clamp e ≡ e) easing_words
@@ -47,12 +48,12 @@ few Nowhere = omega arith
 le_from : (m n : ℕ) → nat_le m n ≡ true → m ≤ n
 le_from m n h = grind (arith, nat_tests)
 
-step_count_was : (n : List ℕ) (jump : Jump) (e : Easing) → step_count clamped n jump ≡ Some e
+step_count_was : (n : List ℕ) (jump : Jump) (e : Easing) → step_count clamped_nearest n jump ≡ Some e
     → (count : ℕ) × IsStepCount n jump count × (view_easing clamp (Steps count jump) ≡ e)
 unfolding step_count
 step_count_was n jump e h =
     let whole = passed (has_no_point n) _ e h in
-    let step = bound (natural clamped 0 1000000 n) _ e whole.1 in
+    let step = bound (natural clamped_nearest 0 1000000 n) _ e whole.1 in
     let enough = passed (nat_le (fewest_steps jump) step.0) _ e step.2 in
     let was = natural_was 0 1000000 n step.0 step.1 in
     let size = sizes 1000000 was.0 step.0 was.2 in
@@ -63,16 +64,16 @@ step_count_was n jump e h =
     (was.0, record { value = record { digits = whole.0; value = integer_near n (pos was.0) whole.0 was.1 }; enough = at_least }, ap (λ z. Steps (unsigned_abs z) jump) was.2 ∙ same)
 
 -- the end of a step easing
-abbrev pub IsJumpEnd : List Piece → Jump → Type 0
+abbrev pub IsJumpEnd : List TokenPart → Jump → Type 0
 IsJumpEnd parts jump = ((parts ≡ Close ∷ []) × (End ≡ jump)) ⊎ ((w : List ℕ) × (parts ≡ Comma ∷ Ident w ∷ Close ∷ []) × (look_up jump_words w ≡ Some jump))
 
-jump_was : (parts : List Piece) (jump : Jump) → jump_of parts ≡ Some jump → IsJumpEnd parts jump
+jump_was : (parts : List TokenPart) (jump : Jump) → jump_of parts ≡ Some jump → IsJumpEnd parts jump
 unfolding jump_of
 jump_was (Close ∷ []) jump h = inl (refl, cc)
 jump_was (Comma ∷ Ident w ∷ Close ∷ []) jump h = inr (w, refl, h)
 jump_was _ jump h = absurd (cc)
 
-steps_end : (f n : List ℕ) (rest : List Piece) (jump : Jump) (e : Easing) → names f (codes "steps") ≡ true → IsJumpEnd rest jump
+steps_end : (f n : List ℕ) (rest : List TokenPart) (jump : Jump) (e : Easing) → is_keyword f (codes "steps") ≡ true → IsJumpEnd rest jump
     → (count : ℕ) × IsStepCount n jump count × (view_easing clamp (Steps count jump) ≡ e) → Spelled (Function f ∷ Number n ∷ rest) e
 steps_end f n rest jump e is (inl h) was =
     let spelled : IsEasingSpelling (Function f ∷ Number n ∷ Close ∷ []) (Steps was.0 jump) =
@@ -81,21 +82,21 @@ steps_end f n rest jump e is (inl h) was =
 steps_end f n rest jump e is (inr h) was =
     (Steps was.0 jump, subst (λ l. IsEasingSpelling (Function f ∷ Number n ∷ l) (Steps was.0 jump)) (sym h.1) (steps_and_jump f n h.0 was.0 jump is h.2 was.1), was.2)
 
-steps_rest : (f n : List ℕ) (rest : List Piece) (e : Easing) → names f (codes "steps") ≡ true
-    → jump_of rest >>= step_count clamped n ≡ Some e → Spelled (Function f ∷ Number n ∷ rest) e
+steps_rest : (f n : List ℕ) (rest : List TokenPart) (e : Easing) → is_keyword f (codes "steps") ≡ true
+    → jump_of rest >>= step_count clamped_nearest n ≡ Some e → Spelled (Function f ∷ Number n ∷ rest) e
 steps_rest f n rest e is h =
-    let step = bound (jump_of rest) (step_count clamped n) e h in
+    let step = bound (jump_of rest) (step_count clamped_nearest n) e h in
     steps_end f n rest step.0 e is (jump_was rest step.0 step.1) (step_count_was n step.0 e step.2)
 
-steps_was : (f : List ℕ) (parts : List Piece) (e : Easing) → names f (codes "steps") ≡ true → steps_of clamped parts ≡ Some e → Spelled (Function f ∷ parts) e
+steps_was : (f : List ℕ) (parts : List TokenPart) (e : Easing) → is_keyword f (codes "steps") ≡ true → steps_of clamped_nearest parts ≡ Some e → Spelled (Function f ∷ parts) e
 unfolding steps_of
 steps_was f (Number n ∷ rest) e is h = steps_rest f n rest e is h
 steps_was f _ e is h = absurd (cc)
 
-abscissa_was : (n : List ℕ) (x : ℤ) → abscissa clamped n ≡ Some x → IsAbscissa n x
+abscissa_was : (n : List ℕ) (x : ℤ) → abscissa clamped_nearest n ≡ Some x → IsAbscissa n x
 unfolding abscissa
 abscissa_was n x h =
-    let step = bound (natural clamped 3 1000 n) _ x h in
+    let step = bound (natural clamped_nearest 3 1000 n) _ x h in
     let low = passed (nat_le step.0 1000) _ x step.2 in
     let was = natural_was 3 1000 n step.0 step.1 in
     let size = sizes 1000 was.0 step.0 was.2 in
@@ -106,7 +107,7 @@ abscissa_was n x h =
     subst (λ z. IsAbscissa n z) is (subst (λ k. IsAbscissa n (pos k)) same (record { value = was.1; low = omega (arith, ints); high = omega (arith, ints) }))
 
 -- a control point in front of the rest
-pub record IsPoint (parts : List Piece) (x y : ℤ) (rest : List Piece) : Type 0 where
+pub record IsPoint (parts : List TokenPart) (x y : ℤ) (rest : List TokenPart) : Type 0 where
   pub a : List ℕ
   pub b : List ℕ
   pub height : ℤ
@@ -115,35 +116,35 @@ pub record IsPoint (parts : List Piece) (x y : ℤ) (rest : List Piece) : Type 0
   pub ordinate : StandsNear 3 b height
   pub clamped_height : clamp 10000 height ≡ y
 
-point_rest : (a b : List ℕ) (rest : List Piece) (p : ℤ × ℤ × List Piece)
-    → abscissa clamped a >>= (λ x. clamped 3 10000 b >>= (λ y. Some (x, y, rest))) ≡ Some p → IsPoint (Number a ∷ Comma ∷ Number b ∷ rest) p.0 p.1 p.2
+point_rest : (a b : List ℕ) (rest : List TokenPart) (p : ℤ × ℤ × List TokenPart)
+    → abscissa clamped_nearest a >>= (λ x. clamped_nearest 3 10000 b >>= (λ y. Some (x, y, rest))) ≡ Some p → IsPoint (Number a ∷ Comma ∷ Number b ∷ rest) p.0 p.1 p.2
 point_rest a b rest p h =
-    let first = bound (abscissa clamped a) _ p h in
-    let second = bound (clamped 3 10000 b) _ p first.2 in
+    let first = bound (abscissa clamped_nearest a) _ p h in
+    let second = bound (clamped_nearest 3 10000 b) _ p first.2 in
     let was = clamped_was 3 10000 b second.0 second.1 in
     let is : (first.0, second.0, rest) ≡ p = cc (second.2) in
-    subst (λ (q : ℤ × ℤ × List Piece). IsPoint (Number a ∷ Comma ∷ Number b ∷ rest) q.0 q.1 q.2) is
+    subst (λ (q : ℤ × ℤ × List TokenPart). IsPoint (Number a ∷ Comma ∷ Number b ∷ rest) q.0 q.1 q.2) is
     (record { a = a; b = b; height = was.0; parts_are = refl; abscissa = abscissa_was a first.0 first.1; ordinate = was.1; clamped_height = was.2 })
 
-point_was : (parts : List Piece) (p : ℤ × ℤ × List Piece) → point_at clamped parts ≡ Some p → IsPoint parts p.0 p.1 p.2
+point_was : (parts : List TokenPart) (p : ℤ × ℤ × List TokenPart) → point_at clamped_nearest parts ≡ Some p → IsPoint parts p.0 p.1 p.2
 unfolding point_at
 point_was (Number a ∷ Comma ∷ Number b ∷ rest) p h = point_rest a b rest p h
 point_was _ p h = absurd (cc)
 
-comma_was : (parts rest : List Piece) → comma_at parts ≡ Some rest → parts ≡ Comma ∷ rest
+comma_was : (parts rest : List TokenPart) → after_comma parts ≡ Some rest → parts ≡ Comma ∷ rest
 comma_was (Comma ∷ ps) rest h = let e : ps ≡ rest = cc in ap (λ l. Comma ∷ l) e
 comma_was _ rest h = absurd (cc)
 
-close_was : (parts : List Piece) → is_close parts ≡ true → parts ≡ Close ∷ []
+close_was : (parts : List TokenPart) → is_close parts ≡ true → parts ≡ Close ∷ []
 close_was (Close ∷ []) h = refl
 close_was _ h = absurd (cc)
 
-curve_was : (f : List ℕ) (parts : List Piece) (e : Easing) → names f (codes "cubic-bezier") ≡ true → curve_of clamped parts ≡ Some e → Spelled (Function f ∷ parts) e
+curve_was : (f : List ℕ) (parts : List TokenPart) (e : Easing) → is_keyword f (codes "cubic-bezier") ≡ true → curve_of clamped_nearest parts ≡ Some e → Spelled (Function f ∷ parts) e
 unfolding curve_of
 curve_was f parts e is h =
-    let one = bound (point_at clamped parts) _ e h in
-    let comma = bound (comma_at one.0.2) _ e one.2 in
-    let two = bound (point_at clamped comma.0) _ e comma.2 in
+    let one = bound (point_at clamped_nearest parts) _ e h in
+    let comma = bound (after_comma one.0.2) _ e one.2 in
+    let two = bound (point_at clamped_nearest comma.0) _ e comma.2 in
     let end = passed (is_close two.0.2) _ e two.2 in
     let p = point_was parts one.0 one.1 in
     let q = point_was comma.0 two.0 two.1 in
@@ -159,17 +160,17 @@ curve_was f parts e is h =
       ap (λ y. Cubic one.0.0 y two.0.0 (clamp 10000 q.height)) p.clamped_height ∙ ap (λ y. Cubic one.0.0 one.0.1 two.0.0 y) q.clamped_height ∙ found,
     )
 
-function_at : (f : List ℕ) (parts : List Piece) (e : Easing) (a b : Bool) → names f (codes "steps") ≡ a → names f (codes "cubic-bezier") ≡ b
-    → cond a (steps_of clamped parts) (cond b (curve_of clamped parts) None) ≡ Some e → Spelled (Function f ∷ parts) e
+function_at : (f : List ℕ) (parts : List TokenPart) (e : Easing) (a b : Bool) → is_keyword f (codes "steps") ≡ a → is_keyword f (codes "cubic-bezier") ≡ b
+    → cond a (steps_of clamped_nearest parts) (cond b (curve_of clamped_nearest parts) None) ≡ Some e → Spelled (Function f ∷ parts) e
 function_at f parts e true b is other h = steps_was f parts e is h
 function_at f parts e false true is other h = curve_was f parts e other h
 function_at f parts e false false is other h = absurd (cc)
 
-function_was : (f : List ℕ) (parts : List Piece) (e : Easing) → function_of clamped f parts ≡ Some e → Spelled (Function f ∷ parts) e
+function_was : (f : List ℕ) (parts : List TokenPart) (e : Easing) → function_of clamped_nearest f parts ≡ Some e → Spelled (Function f ∷ parts) e
 unfolding function_of
-function_was f parts e h = function_at f parts e (names f (codes "steps")) (names f (codes "cubic-bezier")) refl refl h
+function_was f parts e h = function_at f parts e (is_keyword f (codes "steps")) (is_keyword f (codes "cubic-bezier")) refl refl h
 
-pub easing_was : (parts : List Piece) (e : Easing) → easing_of clamped parts ≡ Some e → Spelled parts e
+pub easing_was : (parts : List TokenPart) (e : Easing) → easing_of clamped_nearest parts ≡ Some e → Spelled parts e
 easing_was (Ident w ∷ []) e h = (e, word w e h, of_row (λ e. view_easing clamp e ≡ e) easing_words w e words_kept h)
 easing_was (Function f ∷ parts) e h = function_was f parts e h
 easing_was _ e h = absurd (cc)
@@ -219,23 +220,23 @@ abscissa_found : (num : Numbers) (view : ℕ → ℤ → ℤ) (n : List ℕ) (x 
 abscissa_found num view n (pos x) r h = abscissa_at num view n x r h.value (omega (arith, ints, h.high))
 abscissa_found num view n (negsuc x) r h = absurd (omega (arith, ints, h.low))
 
-point_found : (num : Numbers) (view : ℕ → ℤ → ℤ) (a b : List ℕ) (rest : List Piece) (x y : ℤ) → Reads num view → IsAbscissa a x → StandsNear 3 b y
+point_found : (num : Numbers) (view : ℕ → ℤ → ℤ) (a b : List ℕ) (rest : List TokenPart) (x y : ℤ) → Reads num view → IsAbscissa a x → StandsNear 3 b y
     → point_at num (Number a ∷ Comma ∷ Number b ∷ rest) ≡ Some (x, view 10000 y, rest)
 unfolding point_at
 point_found num view a b rest x y r across up = rw (abscissa_found num view a x r across, r.reads 3 10000 b y up) refl
 
-steps_found : (num : Numbers) (view : ℕ → ℤ → ℤ) (f n : List ℕ) (count : ℕ) → Reads num view → names f (codes "steps") ≡ true → IsStepCount n End count
+steps_found : (num : Numbers) (view : ℕ → ℤ → ℤ) (f n : List ℕ) (count : ℕ) → Reads num view → is_keyword f (codes "steps") ≡ true → IsStepCount n End count
     → function_of num f (Number n ∷ Close ∷ []) ≡ Some (view_easing view (Steps count End))
 unfolding function_of steps_of jump_of
 steps_found num view f n count r is h = rw is (step_count_found num view n End count r h)
 
-jumps_found : (num : Numbers) (view : ℕ → ℤ → ℤ) (f n j : List ℕ) (count : ℕ) (jump : Jump) → Reads num view → names f (codes "steps") ≡ true
+jumps_found : (num : Numbers) (view : ℕ → ℤ → ℤ) (f n j : List ℕ) (count : ℕ) (jump : Jump) → Reads num view → is_keyword f (codes "steps") ≡ true
     → look_up jump_words j ≡ Some jump → IsStepCount n jump count
     → function_of num f (Number n ∷ Comma ∷ Ident j ∷ Close ∷ []) ≡ Some (view_easing view (Steps count jump))
 unfolding function_of steps_of jump_of
 jumps_found num view f n j count jump r is jumps h = rw (is, jumps) (step_count_found num view n jump count r h)
 
-curve_found : (num : Numbers) (view : ℕ → ℤ → ℤ) (f a b c d : List ℕ) (x1 y1 x2 y2 : ℤ) → Reads num view → names f (codes "cubic-bezier") ≡ true
+curve_found : (num : Numbers) (view : ℕ → ℤ → ℤ) (f a b c d : List ℕ) (x1 y1 x2 y2 : ℤ) → Reads num view → is_keyword f (codes "cubic-bezier") ≡ true
     → IsAbscissa a x1 → StandsNear 3 b y1 → IsAbscissa c x2 → StandsNear 3 d y2
     → function_of num f (Number a ∷ Comma ∷ Number b ∷ Comma ∷ Number c ∷ Comma ∷ Number d ∷ Close ∷ []) ≡ Some (view_easing view (Cubic x1 y1 x2 y2))
 unfolding function_of curve_of
@@ -247,7 +248,7 @@ curve_found num view f a b c d x1 y1 x2 y2 r is one up two upper =
       point_found num view c d (Close ∷ []) x2 y2 r two upper,
     ) refl
 
-pub easing_found : {parts : List Piece} {e : Easing} (num : Numbers) (view : ℕ → ℤ → ℤ) → Reads num view → IsEasingSpelling parts e
+pub easing_found : {parts : List TokenPart} {e : Easing} (num : Numbers) (view : ℕ → ℤ → ℤ) → Reads num view → IsEasingSpelling parts e
     → easing_of num parts ≡ Some (view_easing view e)
 easing_found num view r (word w e is) = is ∙ ap Some (sym (kept_easing num view e r (of_row IsEasing easing_words w e words_are is)))
 easing_found num view r (steps f n count is h) = steps_found num view f n count r is h
@@ -260,8 +261,8 @@ easing_found num view r (curve f a b c d x1 y1 x2 y2 is one up two upper) = curv
 is_control : (n : List ℕ) (x y : ℤ) → IsAbscissa n x → unsigned_abs y ≤ 10000 → IsControlPoint x y
 is_control n x y h up = record { low = h.low; high = h.high; height = up }
 
-within_kept : {parts : List Piece} {e : Easing} → IsEasingSpelling parts e → easing_within (view_easing clamp e) ≡ true → (view_easing clamp e ≡ e) × IsEasing e
-within_kept (word w e is) h = let all = of_row IsEasing easing_words w e words_are is in (kept_easing clamped clamp e at_limits all, all)
+within_kept : {parts : List TokenPart} {e : Easing} → IsEasingSpelling parts e → easing_within (view_easing clamp e) ≡ true → (view_easing clamp e ≡ e) × IsEasing e
+within_kept (word w e is) h = let all = of_row IsEasing easing_words w e words_are is in (kept_easing clamped_nearest clamp e at_limits all, all)
 within_kept (steps f n count is k) h =
     let small = same_test 1000000 (pos count) h in
     (ap (λ z. Steps (unsigned_abs z) End) small.0, (k.enough, small.1))
@@ -283,48 +284,48 @@ within_of (Steps count jump) h = to_le count 1000000 h.1
 
 -- ---- the answers
 
-pub easing_ok : (parts : List Piece) (e : Easing) → easing_of clamped parts ≡ Some e → easing_within e ≡ true → IsEasingSpelling parts e × IsEasing e
+pub easing_ok : (parts : List TokenPart) (e : Easing) → easing_of clamped_nearest parts ≡ Some e → easing_within e ≡ true → IsEasingSpelling parts e × IsEasing e
 easing_ok parts e h within =
     let was = easing_was parts e h in
     let kept = within_kept was.1 (subst (λ z. easing_within z ≡ true) (sym was.2) within) in
     let same : was.0 ≡ e = sym kept.0 ∙ was.2 in
     (subst (λ z. IsEasingSpelling parts z) same was.1, subst IsEasing same kept.1)
 
-pub easing_none : (parts : List Piece) → easing_of clamped parts ≡ None → (e : Easing) → IsEasingSpelling parts e → ⊥
-easing_none parts h e spelled = let found = easing_found clamped clamp at_limits spelled in cc
+pub easing_none : (parts : List TokenPart) → easing_of clamped_nearest parts ≡ None → (e : Easing) → IsEasingSpelling parts e → ⊥
+easing_none parts h e spelled = let found = easing_found clamped_nearest clamp at_limits spelled in cc
 
-pub easing_far : (parts : List Piece) (e : Easing) → easing_of clamped parts ≡ Some e → easing_within e ≡ false
+pub easing_far : (parts : List TokenPart) (e : Easing) → easing_of clamped_nearest parts ≡ Some e → easing_within e ≡ false
     → (w : Easing) × IsEasingSpelling parts w × (IsEasing w → ⊥)
 easing_far parts e h far =
     let was = easing_was parts e h in (
       was.0,
       was.1,
       λ (all : IsEasing was.0).
-          let same : was.0 ≡ e = sym (kept_easing clamped clamp was.0 at_limits all) ∙ was.2 in
+          let same : was.0 ≡ e = sym (kept_easing clamped_nearest clamp was.0 at_limits all) ∙ was.2 in
           let near : easing_within e ≡ true = subst (λ z. easing_within z ≡ true) same (within_of was.0 all) in
           cc,
     )
 
-easing_at : (parts : List Piece) (e : Easing) (b : Bool) → easing_of clamped parts ≡ Some e → easing_within e ≡ b → IsEasingAnswer parts (cond b (Ok e) (Err Bound))
+easing_at : (parts : List TokenPart) (e : Easing) (b : Bool) → easing_of clamped_nearest parts ≡ Some e → easing_within e ≡ b → IsEasingAnswer parts (cond b (Ok e) (Err Bound))
 easing_at parts e true h within = easing_ok parts e h within
 easing_at parts e false h within = easing_far parts e h within
 
-easing_answer_at : (parts : List Piece) (o : Option Easing) → easing_of clamped parts ≡ o → IsEasingAnswer parts (judged easing_within o)
+easing_answer_at : (parts : List TokenPart) (o : Option Easing) → easing_of clamped_nearest parts ≡ o → IsEasingAnswer parts (judgement_of easing_within o)
 easing_answer_at parts None h = easing_none parts h
 easing_answer_at parts (Some e) h = easing_at parts e (easing_within e) h refl
 
-pub easing_answer : (parts : List Piece) → IsEasingAnswer parts (easing_read parts)
-easing_answer parts = easing_answer_at parts (easing_of clamped parts) refl
+pub easing_answer : (parts : List TokenPart) → IsEasingAnswer parts (easing_read parts)
+easing_answer parts = easing_answer_at parts (easing_of clamped_nearest parts) refl
 
 plain_easing : (e : Easing) → view_easing plain e ≡ e
 plain_easing Linear = refl
 plain_easing (Cubic x1 y1 x2 y2) = refl
 plain_easing (Steps count jump) = refl
 
-pub exact : (parts : List Piece) (e : Easing) → IsEasingSpelling parts e → easing_of nearest parts ≡ Some e
+pub exact : (parts : List TokenPart) (e : Easing) → IsEasingSpelling parts e → easing_of nearest parts ≡ Some e
 exact parts e h = easing_found nearest plain as_it_is h ∙ ap Some (plain_easing e)
 
-pub one_easing : (parts : List Piece) (e f : Easing) → IsEasingSpelling parts e → IsEasingSpelling parts f → e ≡ f
+pub one_easing : (parts : List TokenPart) (e f : Easing) → IsEasingSpelling parts e → IsEasingSpelling parts f → e ≡ f
 one_easing parts e f h k =
     let one = exact parts e h in
     let other = exact parts f k in

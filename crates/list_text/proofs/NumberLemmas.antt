@@ -15,7 +15,7 @@ use Rattle.fix_num.proofs.RoundedReadingLemmas.{far_told, near_told, none_told, 
 use Rattle.fix_num.proofs.RoundingLemmas.{nearest_only, nearest as rounded_near}
 use Rattle.fix_num.proofs.SpellingLemmas.{found, spelled}
 use Rattle.fix_num.proofs.SignLemmas.{sign_of, size_of_signed}
-use Rattle.list_text.specs.Numbers.{clamp, clamped, nearest}
+use Rattle.list_text.specs.Numbers.{clamp, clamped_nearest, nearest}
 
 -- ---- the nearest number
 
@@ -47,16 +47,16 @@ clamp_small limit v h = let e : nat_le (unsigned_abs v) limit ≡ true = grind (
 pub clamp_large : (limit : ℕ) (v : ℤ) → limit < unsigned_abs v → clamp limit v ≡ signed_number (is_minus v) (limit + 1)
 clamp_large limit v h = let e : nat_le (unsigned_abs v) limit ≡ false = grind (arith, nat_tests) in rw e refl
 
-pub far : (places limit : ℕ) (text : List ℕ) → rounded_reading_of places limit text ≡ Err TooLarge → clamped places limit text ≡ Some (signed_number (slice_index text 0 == 45) (limit + 1))
-unfolding clamped
+pub far : (places limit : ℕ) (text : List ℕ) → rounded_reading_of places limit text ≡ Err TooLarge → clamped_nearest places limit text ≡ Some (signed_number (slice_index text 0 == 45) (limit + 1))
+unfolding clamped_nearest
 far places limit text h =
     let told = far_told places limit text h in
     let v : ℤ = told.0 in
     let near : StandsNear places text v = told.1 in
     rw (near_found places limit text v near) (ap Some (clamp_large limit v told.2 ∙ ap (λ b. signed_number b (limit + 1)) (sign_of places text v near (omega arith))))
 
-pub fair : (places limit : ℕ) (text : List ℕ) (v : ℤ) → rounded_reading_of places limit text ≡ Ok v → clamped places limit text ≡ Some v
-unfolding clamped
+pub fair : (places limit : ℕ) (text : List ℕ) (v : ℤ) → rounded_reading_of places limit text ≡ Ok v → clamped_nearest places limit text ≡ Some v
+unfolding clamped_nearest
 fair places limit text v h =
     let told = near_told places limit text v h in
     rw (near_found places limit text v told.0) (ap Some (clamp_small limit v told.1))
@@ -65,11 +65,11 @@ none_at : (places limit : ℕ) (text : List ℕ) (o : Option Decimal) → decima
 none_at places limit text None e h = refl
 none_at places limit text (Some d) e h = absurd (h d (spelled text d e))
 
-pub unread : (places limit : ℕ) (text : List ℕ) → rounded_reading_of places limit text ≡ Err Syntax → clamped places limit text ≡ None
-unfolding clamped nearest
+pub unread : (places limit : ℕ) (text : List ℕ) → rounded_reading_of places limit text ≡ Err Syntax → clamped_nearest places limit text ≡ None
+unfolding clamped_nearest nearest
 unread places limit text h = none_at places limit text (decimal_of text) refl (none_told places limit text h)
 
-pub unfine : (places limit : ℕ) (text : List ℕ) → rounded_reading_of places limit text ≡ Err TooFine → clamped places limit text ≡ None
+pub unfine : (places limit : ℕ) (text : List ℕ) → rounded_reading_of places limit text ≡ Err TooFine → clamped_nearest places limit text ≡ None
 unfine places limit text h = absurd (never_fine places limit text h)
 
 -- ---- the same after the casts of the code
@@ -78,14 +78,14 @@ same_64 : (v : ℤ) → unsigned_abs v ≤ 10 ^ 15 + 1 → cast_signed w64 (cast
 same_64 v h = let fits : SFits w64 v = fits_signed_from_abs w64 v (omega arith) in to_z-of_z w64 v fits
 
 pub fair_value : (places limit : ℕ) (text : List ℕ) (v : ℤ) → limit ≤ 10 ^ 15 → Ok v ≡ rounded_reading_of places limit text
-    → Some (cast_signed w64 (cast_unsigned w64 v)) ≡ clamped places limit text
+    → Some (cast_signed w64 (cast_unsigned w64 v)) ≡ clamped_nearest places limit text
 fair_value places limit text v few h =
     let size = (near_told places limit text v (sym h)).1 in
     let same : cast_signed w64 (cast_unsigned w64 v) ≡ v = same_64 v (omega arith) in
     rw same (sym (fair places limit text v (sym h)))
 
 pub far_value : (places limit : ℕ) (text : List ℕ) (v : ℤ) → limit ≤ 10 ^ 15 → v ≡ signed_number (slice_index text 0 == 45) (limit + 1)
-    → Err TooLarge ≡ rounded_reading_of places limit text → Some (cast_signed w64 (cast_unsigned w64 v)) ≡ clamped places limit text
+    → Err TooLarge ≡ rounded_reading_of places limit text → Some (cast_signed w64 (cast_unsigned w64 v)) ≡ clamped_nearest places limit text
 far_value places limit text v few is h =
     let size : unsigned_abs v ≡ limit + 1 = ap unsigned_abs is ∙ size_of_signed (slice_index text 0 == 45) (limit + 1) in
     let same : cast_signed w64 (cast_unsigned w64 v) ≡ v = same_64 v (omega arith) in

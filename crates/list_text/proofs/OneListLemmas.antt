@@ -4,8 +4,8 @@ use Rattle.std.specs.Prelude.{option_map}
 use Rattle.std.specs.List.{list_all}
 use Rattle.std.specs.Str.{bytes_eq, str_to_ascii_lowercase}
 use Rattle.std.proofs.lemmas.Bool.{and_parts}
-use Rattle.token_parts.specs.Keywords.{names, look_up}
-use Rattle.token_parts.specs.Parts.{Piece, Ident, Comma}
+use Rattle.token_parts.specs.Keywords.{is_keyword, look_up}
+use Rattle.token_parts.specs.Parts.{TokenPart, Ident, Comma}
 use Rattle.value_types.specs.Names.{is_animation_name, is_reserved}
 use Rattle.value_types.proofs.NameLemmas.{animation_name_told}
 use Rattle.value_types.specs.declared.easing.Easing.{Easing}
@@ -38,20 +38,20 @@ from_not : (b : Bool) → not b ≡ true → b ≡ false
 from_not true h = absurd (cc)
 from_not false h = refl
 
-not_found : {V : Type 0} (keyword w : List ℕ) (rows : List (List ℕ × V)) → differs keyword rows ≡ true → names w keyword ≡ true → look_up rows w ≡ None
+not_found : {V : Type 0} (keyword w : List ℕ) (rows : List (List ℕ × V)) → differs keyword rows ≡ true → is_keyword w keyword ≡ true → look_up rows w ≡ None
 not_found keyword w [] h is = refl
 not_found keyword w (row ∷ rows) h is =
     let both = and_parts _ _ h in
     rw (only_one w keyword row.0 is (from_not _ both.0)) (not_found keyword w rows both.1 is)
 
-no_row_at : {V : Type 0} (keyword w : List ℕ) (rows : List (List ℕ × V)) (x : V) (b : Bool) → differs keyword rows ≡ true → look_up rows w ≡ Some x → names w keyword ≡ b
-    → names w keyword ≡ false
+no_row_at : {V : Type 0} (keyword w : List ℕ) (rows : List (List ℕ × V)) (x : V) (b : Bool) → differs keyword rows ≡ true → look_up rows w ≡ Some x → is_keyword w keyword ≡ b
+    → is_keyword w keyword ≡ false
 no_row_at keyword w rows x true h found is = let none = not_found keyword w rows h is in absurd (cc)
 no_row_at keyword w rows x false h found is = is
 
 -- a word of the table isn't the keyword
-no_row : {V : Type 0} (keyword w : List ℕ) (rows : List (List ℕ × V)) (x : V) → differs keyword rows ≡ true → look_up rows w ≡ Some x → names w keyword ≡ false
-no_row keyword w rows x h found = no_row_at keyword w rows x (names w keyword) h found refl
+no_row : {V : Type 0} (keyword w : List ℕ) (rows : List (List ℕ × V)) (x : V) → differs keyword rows ≡ true → look_up rows w ≡ Some x → is_keyword w keyword ≡ false
+no_row keyword w rows x h found = no_row_at keyword w rows x (is_keyword w keyword) h found refl
 
 neither : (a b : Bool) → a ≡ false → b ≡ false → a || b ≡ false
 neither true b h k = absurd (cc)
@@ -77,27 +77,27 @@ not_reserved false false true d h = absurd (cc)
 not_reserved false false false true h = absurd (cc)
 not_reserved false false false false h = (refl, refl)
 
-free_word : (w : List ℕ) → is_reserved w ≡ false → (names w (codes "none") ≡ false) × (is_initial (Ident w ∷ []) ≡ false)
-free_word w h = not_reserved (names w (codes "none")) (names w (codes "initial")) (names w (codes "inherit")) (names w (codes "unset")) h
+free_word : (w : List ℕ) → is_reserved w ≡ false → (is_keyword w (codes "none") ≡ false) × (is_initial (Ident w ∷ []) ≡ false)
+free_word w h = not_reserved (is_keyword w (codes "none")) (is_keyword w (codes "initial")) (is_keyword w (codes "inherit")) (is_keyword w (codes "unset")) h
 
 not_true : (b : Bool) → not b ≡ true → b ≡ false
 not_true true h = absurd (cc)
 not_true false h = refl
 
-name_at : (w : List ℕ) (a b : Bool) (x : Option (List ℕ)) → names w (codes "none") ≡ a → is_animation_name w ≡ b
+name_at : (w : List ℕ) (a b : Bool) (x : Option (List ℕ)) → is_keyword w (codes "none") ≡ a → is_animation_name w ≡ b
     → cond a (Some None) (cond b (Some (Some w)) None) ≡ Some x → is_initial (Ident w ∷ []) ≡ false
 name_at w true b x none name h = neither _ _ (only_one w (codes "none") (codes "initial") none refl) (only_one w (codes "none") (codes "unset") none refl)
 name_at w false true x none name h = (free_word w (not_true (is_reserved w) (animation_name_told w name).free)).1
 name_at w false false x none name h = absurd (cc)
 
 name_free : (w : List ℕ) (x : Option (List ℕ)) → name_of_word w ≡ Some x → is_initial (Ident w ∷ []) ≡ false
-name_free w x h = name_at w (names w (codes "none")) (is_animation_name w) x refl refl h
+name_free w x h = name_at w (is_keyword w (codes "none")) (is_animation_name w) x refl refl h
 
-property_free : (w : List ℕ) (x : PropertyItem) → property_of_word w ≡ Some x → (is_initial (Ident w ∷ []) ≡ false) × (names w (codes "none") ≡ false)
+property_free : (w : List ℕ) (x : PropertyItem) → property_of_word w ≡ Some x → (is_initial (Ident w ∷ []) ≡ false) × (is_keyword w (codes "none") ≡ false)
 property_free w x h = let free = free_word w (failed (is_reserved w) _ x h) in (free.1, free.0)
 
 -- items with a comma aren't one word
-no_word : (test : List ℕ → Bool) (parts rest : List Piece) → is_word test (parts ++ Comma ∷ rest) ≡ false
+no_word : (test : List ℕ → Bool) (parts rest : List TokenPart) → is_word test (parts ++ Comma ∷ rest) ≡ false
 no_word test [] rest = refl
 no_word test (Ident w ∷ []) rest = refl
 no_word test (Ident w ∷ p ∷ ps) rest = refl
@@ -106,32 +106,32 @@ no_word test (p ∷ ps) rest = refl
 -- ---- items
 
 -- the reader finds what the parts spell, which isn't a word for the whole list
-pub record Finds {T : Type 0} (P : List Piece → T → Type 0) (item : List Piece → Option T) : Type 0 where
-  pub whole : (parts : List Piece) (x : T) → P parts x → IsWhole parts
-  pub exact : (parts : List Piece) (x : T) → P parts x → item parts ≡ Some x
-  pub free : (parts : List Piece) (x : T) → P parts x → is_initial parts ≡ false
+pub record Finds {T : Type 0} (P : List TokenPart → T → Type 0) (item : List TokenPart → Option T) : Type 0 where
+  pub whole : (parts : List TokenPart) (x : T) → P parts x → IsWhole parts
+  pub exact : (parts : List TokenPart) (x : T) → P parts x → item parts ≡ Some x
+  pub free : (parts : List TokenPart) (x : T) → P parts x → is_initial parts ≡ false
 
-each_exact : {T : Type 0} {P : List Piece → T → Type 0} {parts : List Piece} {xs : List T} (item : List Piece → Option T) → Finds P item → AreItems P parts xs
+each_exact : {T : Type 0} {P : List TokenPart → T → Type 0} {parts : List TokenPart} {xs : List T} (item : List TokenPart → Option T) → Finds P item → AreItems P parts xs
     → each_of item (groups_of false parts) ≡ Some xs
 each_exact item f (last parts x h) = rw ((f.whole parts x h).alone, f.exact parts x h) refl
 each_exact item f (more parts rest x xs h hs) = rw ((f.whole parts x h).before rest, f.exact parts x h, each_exact item f hs) refl
 
-items_free : {T : Type 0} {P : List Piece → T → Type 0} {parts : List Piece} {xs : List T} (item : List Piece → Option T) → Finds P item → AreItems P parts xs
+items_free : {T : Type 0} {P : List TokenPart → T → Type 0} {parts : List TokenPart} {xs : List T} (item : List TokenPart → Option T) → Finds P item → AreItems P parts xs
     → is_initial parts ≡ false
 items_free item f (last parts x h) = f.free parts x h
 items_free item f (more parts rest x xs h hs) = no_word _ parts rest
 
-time_free : {parts : List Piece} {v : ℤ} → IsTime parts v → is_initial parts ≡ false
+time_free : {parts : List TokenPart} {v : ℤ} → IsTime parts v → is_initial parts ≡ false
 time_free (seconds n u v is near) = refl
 time_free (milliseconds n u v is near) = refl
 
-easing_free : {parts : List Piece} {e : Easing} → IsEasingSpelling parts e → is_initial parts ≡ false
+easing_free : {parts : List TokenPart} {e : Easing} → IsEasingSpelling parts e → is_initial parts ≡ false
 easing_free (word w e is) = row_free easing_words w e (refl, refl) is
 easing_free (steps f n count is h) = refl
 easing_free (steps_and_jump f n j count jump is jumps h) = refl
 easing_free (curve f a b c d x1 y1 x2 y2 is one up two upper) = refl
 
-count_free : {parts : List Piece} {x : Count} → IsCountSpelling parts x → is_initial parts ≡ false
+count_free : {parts : List TokenPart} {x : Count} → IsCountSpelling parts x → is_initial parts ≡ false
 count_free (times n v near low) = refl
 count_free (infinite w is) = neither _ _ (only_one w (codes "infinite") (codes "initial") is refl) (only_one w (codes "infinite") (codes "unset") is refl)
 
@@ -181,14 +181,14 @@ rows_find : {T : Type 0} (rows : List (List ℕ × T)) → differs (codes "initi
     → Finds (IsWord (look_up rows)) (word_item (look_up rows))
 rows_find rows h k = words_find (look_up rows) (λ w x found. row_free rows w x (h, k) found)
 
-properties_free : {parts : List Piece} {xs : List PropertyItem} → AreItems (IsWord property_of_word) parts xs → is_nothing list.TransitionProperty parts ≡ false
+properties_free : {parts : List TokenPart} {xs : List PropertyItem} → AreItems (IsWord property_of_word) parts xs → is_nothing list.TransitionProperty parts ≡ false
 properties_free (last parts x h) = subst (λ l. is_nothing list.TransitionProperty l ≡ false) (sym h.1) (property_free h.0 x h.2).1
 properties_free (more parts rest x xs h hs) = no_word _ parts rest
 
 -- ---- lists
 
 -- the items of the list, of numbers as they are
-abbrev pub told : ListName → List Piece → Option ListValue
+abbrev pub told : ListName → List TokenPart → Option ListValue
 told list.TransitionProperty parts = option_map Properties (each_of (word_item property_of_word) (groups_of false parts))
 told list.TransitionDuration parts = option_map Times (each_of (micros_of nearest false) (groups_of false parts))
 told list.TransitionDelay parts = option_map Times (each_of (micros_of nearest true) (groups_of false parts))
@@ -203,14 +203,14 @@ told list.AnimationFill parts = option_map Fills (each_of (word_item (look_up fi
 told list.AnimationPlayState parts = option_map States (each_of (word_item (look_up state_words)) (groups_of false parts))
 
 -- these are the items, and no word for the whole list
-abbrev pub IsTold : ListName → List Piece → ListValue → Type 0
+abbrev pub IsTold : ListName → List TokenPart → ListValue → Type 0
 IsTold name parts v = (told name parts ≡ Some v) × (is_initial parts ≡ false) × (is_nothing name parts ≡ false)
 
-one_told : {T : Type 0} {P : List Piece → T → Type 0} {parts : List Piece} {xs : List T} (C : List T → ListValue) (item : List Piece → Option T) → Finds P item → AreItems P parts xs
+one_told : {T : Type 0} {P : List TokenPart → T → Type 0} {parts : List TokenPart} {xs : List T} (C : List T → ListValue) (item : List TokenPart → Option T) → Finds P item → AreItems P parts xs
     → (option_map C (each_of item (groups_of false parts)) ≡ Some (C xs)) × (is_initial parts ≡ false)
 one_told C item f h = (ap (option_map C) (each_exact item f h), items_free item f h)
 
-items_told : (name : ListName) (parts : List Piece) (v : ListValue) → AreItemsOf name parts v → IsTold name parts v
+items_told : (name : ListName) (parts : List TokenPart) (v : ListValue) → AreItemsOf name parts v → IsTold name parts v
 items_told list.TransitionProperty parts (Properties xs) h = let t = one_told Properties (word_item property_of_word) properties_find h in (t.0, t.1, properties_free h)
 items_told list.TransitionDuration parts (Times xs) h = let t = one_told Times (micros_of nearest false) durations_find h in (t.0, t.1, refl)
 items_told list.TransitionDelay parts (Times xs) h = let t = one_told Times (micros_of nearest true) delays_find h in (t.0, t.1, refl)
@@ -226,15 +226,15 @@ items_told list.AnimationPlayState parts (States xs) h = let t = one_told States
 items_told _ parts _ h = absurd h
 
 -- the value of the list, of numbers as they are
-abbrev pub whole_value : ListName → List Piece → Option ListValue
+abbrev pub whole_value : ListName → List TokenPart → Option ListValue
 whole_value name parts = cond (is_initial parts) (Some Initial) (cond (is_nothing name parts) (Some (Properties [])) (told name parts))
 
-value_found : {name : ListName} {parts : List Piece} {v : ListValue} → IsListSpelling name parts v → whole_value name parts ≡ Some v
+value_found : {name : ListName} {parts : List TokenPart} {v : ListValue} → IsListSpelling name parts v → whole_value name parts ≡ Some v
 value_found (initial name w is) = rw is refl
 value_found (nothing w is) = rw (only_one w (codes "none") (codes "initial") is refl, only_one w (codes "none") (codes "unset") is refl, is) refl
 value_found (items name parts v h) = let t = items_told name parts v h in rw (t.1, t.2) t.0
 
-pub one_list : (name : ListName) (parts : List Piece) (v w : ListValue) → IsListSpelling name parts v → IsListSpelling name parts w → v ≡ w
+pub one_list : (name : ListName) (parts : List TokenPart) (v w : ListValue) → IsListSpelling name parts v → IsListSpelling name parts w → v ≡ w
 one_list name parts v w h k =
     let one = value_found h in
     let other = value_found k in

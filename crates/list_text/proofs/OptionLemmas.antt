@@ -1,7 +1,7 @@
 -- Steps that may fail.
 use Rattle.std.proofs.Common.{◌≡◌, refl, cond, Bool, true, false, Option, Some, None}
 use Rattle.std.specs.Prelude.{option_map}
-use Rattle.list_text.specs.Reading.{◌>>=◌}
+use Rattle.token_parts.specs.Steps.{◌>>=◌}
 
 pub bound : {A B : Type 0} (o : Option A) (f : A → Option B) (y : B) → o >>= f ≡ Some y → (x : A) × (o ≡ Some x) × (f x ≡ Some y)
 bound None f y h = absurd (cc)

@@ -6,7 +6,7 @@ use Rattle.std.proofs.lemmas.Int.{ints}
 use Rattle.fix_num.specs.Decimal.{is_minus}
 use Rattle.fix_num.specs.Rounded.{StandsNear}
 use Rattle.fix_num.proofs.SignLemmas.{size_of_signed}
-use Rattle.list_text.specs.Numbers.{clamp, clamped, nearest, not_negative}
+use Rattle.list_text.specs.Numbers.{clamp, clamped_nearest, nearest, not_negative}
 use Rattle.list_text.specs.Reading.{Numbers, natural}
 use Rattle.list_text.proofs.NumberLemmas.{clamp_large, clamp_small, near_found, near_was}
 use Rattle.list_text.proofs.OptionLemmas.{bound, mapped}
@@ -23,14 +23,14 @@ plain limit v = v
 pub as_it_is : Reads nearest plain
 as_it_is = record { reads = λ places limit text v near. near_found places limit text v near; small = λ limit v h. refl; large = λ limit n h. (n, refl, h) }
 
-clamped_reads : (places limit : ℕ) (text : List ℕ) (v : ℤ) → StandsNear places text v → clamped places limit text ≡ Some (clamp limit v)
-unfolding clamped
+clamped_reads : (places limit : ℕ) (text : List ℕ) (v : ℤ) → StandsNear places text v → clamped_nearest places limit text ≡ Some (clamp limit v)
+unfolding clamped_nearest
 clamped_reads places limit text v near = rw (near_found places limit text v near) refl
 
 clamp_pos : (limit n : ℕ) → limit < n → clamp limit (pos n) ≡ pos (limit + 1)
 clamp_pos limit n h = clamp_large limit (pos n) h
 
-pub at_limits : Reads clamped clamp
+pub at_limits : Reads clamped_nearest clamp
 at_limits = record { reads = clamped_reads; small = clamp_small; large = λ limit n h. (limit + 1, clamp_pos limit n h, omega arith) }
 
 -- a number that is not negative stays so
@@ -41,8 +41,8 @@ kept num view limit n r = elim (cases_lt limit n) [
   | inr less ↦ (n, r.small limit (pos n) less, inl (refl, less))
 ]
 
-pub clamped_was : (places limit : ℕ) (text : List ℕ) (w : ℤ) → clamped places limit text ≡ Some w → (v : ℤ) × StandsNear places text v × (clamp limit v ≡ w)
-unfolding clamped
+pub clamped_was : (places limit : ℕ) (text : List ℕ) (w : ℤ) → clamped_nearest places limit text ≡ Some w → (v : ℤ) × StandsNear places text v × (clamp limit v ≡ w)
+unfolding clamped_nearest
 clamped_was places limit text w h =
     let found = mapped (clamp limit) (nearest places limit text) w h in
     (found.0, near_was places limit text found.0 found.1, found.2)
@@ -58,11 +58,11 @@ sign_kept limit k (negsuc n) h = elim (cases_lt limit (suc n)) [
   | inr less ↦ let e = sym (clamp_small limit (negsuc n) less) ∙ h in absurd (cc)
 ]
 
-pub natural_was : (places limit : ℕ) (text : List ℕ) (k : ℕ) → natural clamped places limit text ≡ Some k
+pub natural_was : (places limit : ℕ) (text : List ℕ) (k : ℕ) → natural clamped_nearest places limit text ≡ Some k
     → (n : ℕ) × StandsNear places text (pos n) × (clamp limit (pos n) ≡ pos k)
 unfolding natural
 natural_was places limit text k h =
-    let step = bound (clamped places limit text) not_negative k h in
+    let step = bound (clamped_nearest places limit text) not_negative k h in
     let was = clamped_was places limit text step.0 step.1 in
     let is : clamp limit was.0 ≡ pos k = was.2 ∙ not_negative_was step.0 k step.2 in
     let sign = sign_kept limit k was.0 is in
@@ -103,12 +103,12 @@ clamp_size limit v = elim (cases_lt limit (unsigned_abs v)) [
   | inr less ↦ let size = ap unsigned_abs (clamp_small limit v less) in omega (arith, size)
 ]
 
-pub clamped_size : (places limit : ℕ) (text : List ℕ) (v : ℤ) → Some v ≡ clamped places limit text → unsigned_abs v ≤ limit + 1
+pub clamped_size : (places limit : ℕ) (text : List ℕ) (v : ℤ) → Some v ≡ clamped_nearest places limit text → unsigned_abs v ≤ limit + 1
 clamped_size places limit text v h =
     let was = clamped_was places limit text v (sym h) in
     subst (λ z. unsigned_abs z ≤ limit + 1) was.2 (clamp_size limit was.0)
 
-pub natural_size : (places limit : ℕ) (text : List ℕ) (k : ℕ) → Some k ≡ natural clamped places limit text → k ≤ limit + 1
+pub natural_size : (places limit : ℕ) (text : List ℕ) (k : ℕ) → Some k ≡ natural clamped_nearest places limit text → k ≤ limit + 1
 natural_size places limit text k h =
     let was = natural_was places limit text k (sym h) in
     let size = clamp_size limit (pos was.0) in

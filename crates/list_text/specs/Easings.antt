@@ -1,8 +1,8 @@
--- The spellings of easing functions (CSS Easing 1, section 2).
+-- The spellings of easing functions (CSS Easing 1, "Easing functions").
 use Rattle.std.specs.Prelude.{◌≡◌, ℕ, ◌≤◌, ℤ, pos, ◌≤ℤ◌, List, [], ◌∷◌, codes, IsTrue, Some, Result, Ok, Err, ⊤}
 use Rattle.fix_num.specs.Rounded.{StandsNear}
-use Rattle.token_parts.specs.Keywords.{names, look_up}
-use Rattle.token_parts.specs.Parts.{Piece, Ident, Function, Number, Comma, Close}
+use Rattle.token_parts.specs.Keywords.{is_keyword, look_up}
+use Rattle.token_parts.specs.Parts.{TokenPart, Ident, Function, Number, Comma, Close}
 use Rattle.token_parts.specs.declared.fault.ValueFault.{ValueFault}
 use Rattle.token_parts.specs.declared.fault.ValueFault.TheVariants.{Unsupported, BoundItems, Bound, NoMemory}
 use Rattle.value_types.specs.Timing.{IsEasing, ease, fewest_steps}
@@ -47,20 +47,20 @@ pub record IsAbscissa (number : List ℕ) (x : ℤ) : Type 0 where
   pub high : x ≤ℤ pos 1000
 
 -- the parts spell the easing, whatever the size of its numbers
-pub data IsEasingSpelling : List Piece → Easing → Type 0 where
+pub data IsEasingSpelling : List TokenPart → Easing → Type 0 where
   word : (w : List ℕ) (e : Easing) → look_up easing_words w ≡ Some e → IsEasingSpelling (Ident w ∷ []) e
-  steps : (f n : List ℕ) (count : ℕ) → IsTrue (names f (codes "steps")) → IsStepCount n End count
+  steps : (f n : List ℕ) (count : ℕ) → IsTrue (is_keyword f (codes "steps")) → IsStepCount n End count
       → IsEasingSpelling (Function f ∷ Number n ∷ Close ∷ []) (Steps count End)
-  steps_and_jump : (f n j : List ℕ) (count : ℕ) (jump : Jump) → IsTrue (names f (codes "steps"))
+  steps_and_jump : (f n j : List ℕ) (count : ℕ) (jump : Jump) → IsTrue (is_keyword f (codes "steps"))
       → look_up jump_words j ≡ Some jump → IsStepCount n jump count
       → IsEasingSpelling (Function f ∷ Number n ∷ Comma ∷ Ident j ∷ Close ∷ []) (Steps count jump)
-  curve : (f a b c d : List ℕ) (x1 y1 x2 y2 : ℤ) → IsTrue (names f (codes "cubic-bezier"))
+  curve : (f a b c d : List ℕ) (x1 y1 x2 y2 : ℤ) → IsTrue (is_keyword f (codes "cubic-bezier"))
       → IsAbscissa a x1 → StandsNear 3 b y1 → IsAbscissa c x2 → StandsNear 3 d y2
       → IsEasingSpelling (Function f ∷ Number a ∷ Comma ∷ Number b ∷ Comma ∷ Number c ∷ Comma ∷ Number d ∷ Close ∷ [])
       (Cubic x1 y1 x2 y2)
 
 -- the answer of the reader of these parts, unless memory runs out
-abbrev pub IsEasingAnswer : List Piece → Result Easing ValueFault → Type 0
+abbrev pub IsEasingAnswer : List TokenPart → Result Easing ValueFault → Type 0
 IsEasingAnswer parts (Ok e) = IsEasingSpelling parts e × IsEasing e
 IsEasingAnswer parts (Err Unsupported) = (e : Easing) → IsEasingSpelling parts e → ⊥
 IsEasingAnswer parts (Err BoundItems) = ⊥

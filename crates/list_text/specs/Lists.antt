@@ -2,8 +2,8 @@
 use Rattle.std.specs.Prelude.{◌≡◌, ℕ, ◌<◌, ◌≤◌, ℤ, pos, ◌≤ℤ◌, Bool, ◌||◌, if◌then◌else◌, List, [], ◌∷◌, ◌++◌, length, codes, IsTrue, Option, None, Some, Result, Ok, Err, ⊤}
 use Rattle.fix_num.specs.Rounded.{StandsNear}
 use Rattle.fix_num.specs.declared.units.Micros.{Micros}
-use Rattle.token_parts.specs.Keywords.{names, look_up}
-use Rattle.token_parts.specs.Parts.{Piece, Ident, Number, Dimension, Comma}
+use Rattle.token_parts.specs.Keywords.{is_keyword, look_up}
+use Rattle.token_parts.specs.Parts.{TokenPart, Ident, Number, Dimension, Comma}
 use Rattle.token_parts.specs.declared.fault.ValueFault.{ValueFault}
 use Rattle.token_parts.specs.declared.fault.ValueFault.TheVariants.{Unsupported, BoundItems, Bound, NoMemory}
 use Rattle.value_types.specs.ListValues.{IsListValueFor}
@@ -32,7 +32,7 @@ use Rattle.list_text.specs.Easings.{IsEasingSpelling}
 -- ---- items
 
 -- the part is a word with that meaning
-abbrev pub IsWord : {T : Type 0} → (List ℕ → Option T) → List Piece → T → Type 0
+abbrev pub IsWord : {T : Type 0} → (List ℕ → Option T) → List TokenPart → T → Type 0
 IsWord meaning parts x = (w : List ℕ) × (parts ≡ Ident w ∷ []) × (meaning w ≡ Some x)
 
 -- the directions by keyword
@@ -54,49 +54,49 @@ shorthand_words = (codes "background", Background) ∷ (codes "inset", Inset) �
 
 -- an animation's name, as it is written, or `none`
 abbrev pub name_of_word : List ℕ → Option (Option (List ℕ))
-name_of_word w = (if names w (codes "none") then Some None else if is_animation_name w then Some (Some w) else None)
+name_of_word w = (if is_keyword w (codes "none") then Some None else if is_animation_name w then Some (Some w) else None)
 
 -- the property, else the shorthand that has the name
-abbrev pub known : Option PropertyId → Option Shorthand → PropertyItem
-known (Some p) s = item.Property p
-known None (Some s) = item.Short s
-known None None = item.Unknown
+abbrev pub property_item : Option PropertyId → Option Shorthand → PropertyItem
+property_item (Some p) s = item.Property p
+property_item None (Some s) = item.Short s
+property_item None None = item.Unknown
 
 -- what transitions: `none` and the keywords of the cascade are no items
 abbrev pub property_of_word : List ℕ → Option PropertyItem
 property_of_word w =
     (if is_reserved w then None
-    else if names w (codes "all") then Some item.All
-    else Some (known (property_named w) (look_up shorthand_words w)))
+    else if is_keyword w (codes "all") then Some item.All
+    else Some (property_item (property_named w) (look_up shorthand_words w)))
 
 -- a time in microseconds: of seconds to six places, of milliseconds to three
-pub data IsTime : List Piece → ℤ → Type 0 where
-  seconds : (n u : List ℕ) (v : ℤ) → IsTrue (names u (codes "s")) → StandsNear 6 n v → IsTime (Dimension n u ∷ []) v
-  milliseconds : (n u : List ℕ) (v : ℤ) → IsTrue (names u (codes "ms")) → StandsNear 3 n v → IsTime (Dimension n u ∷ []) v
+pub data IsTime : List TokenPart → ℤ → Type 0 where
+  seconds : (n u : List ℕ) (v : ℤ) → IsTrue (is_keyword u (codes "s")) → StandsNear 6 n v → IsTime (Dimension n u ∷ []) v
+  milliseconds : (n u : List ℕ) (v : ℤ) → IsTrue (is_keyword u (codes "ms")) → StandsNear 3 n v → IsTime (Dimension n u ∷ []) v
 
 -- a delay is any time
-abbrev pub IsDelaySpelling : List Piece → Micros → Type 0
+abbrev pub IsDelaySpelling : List TokenPart → Micros → Type 0
 IsDelaySpelling parts t = IsTime parts t.0
 
 -- a duration is not negative
-abbrev pub IsDurationSpelling : List Piece → Micros → Type 0
+abbrev pub IsDurationSpelling : List TokenPart → Micros → Type 0
 IsDurationSpelling parts t = IsTime parts t.0 × (pos 0 ≤ℤ t.0)
 
 -- a count is a number that is not negative, in millionths, or `infinite`
-pub data IsCountSpelling : List Piece → Count → Type 0 where
+pub data IsCountSpelling : List TokenPart → Count → Type 0 where
   times : (n : List ℕ) (v : ℤ) → StandsNear 6 n v → pos 0 ≤ℤ v → IsCountSpelling (Number n ∷ []) (count.Times (record { 0 = v }))
-  infinite : (w : List ℕ) → IsTrue (names w (codes "infinite")) → IsCountSpelling (Ident w ∷ []) count.Infinite
+  infinite : (w : List ℕ) → IsTrue (is_keyword w (codes "infinite")) → IsCountSpelling (Ident w ∷ []) count.Infinite
 
 -- ---- lists
 
 -- items, with a comma between each and the next
-pub data AreItems {T : Type 0} (P : List Piece → T → Type 0) : List Piece → List T → Type 0 where
-  last : (parts : List Piece) (x : T) → P parts x → AreItems P parts (x ∷ [])
-  more : (parts rest : List Piece) (x : T) (xs : List T) → P parts x → AreItems P rest xs
+pub data AreItems {T : Type 0} (P : List TokenPart → T → Type 0) : List TokenPart → List T → Type 0 where
+  last : (parts : List TokenPart) (x : T) → P parts x → AreItems P parts (x ∷ [])
+  more : (parts rest : List TokenPart) (x : T) (xs : List T) → P parts x → AreItems P rest xs
       → AreItems P (parts ++ Comma ∷ rest) (x ∷ xs)
 
 -- the parts are items of the list
-abbrev pub AreItemsOf : ListName → List Piece → ListValue → Type 0
+abbrev pub AreItemsOf : ListName → List TokenPart → ListValue → Type 0
 AreItemsOf list.TransitionProperty parts (Properties xs) = AreItems (IsWord property_of_word) parts xs
 AreItemsOf list.TransitionDuration parts (Times xs) = AreItems IsDurationSpelling parts xs
 AreItemsOf list.TransitionDelay parts (Times xs) = AreItems IsDelaySpelling parts xs
@@ -112,11 +112,11 @@ AreItemsOf list.AnimationPlayState parts (States xs) = AreItems (IsWord (look_up
 AreItemsOf _ parts _ = ⊥
 
 -- the parts spell the value of the list, whatever the size of its numbers: no list is inherited, so `unset` is `initial`
-pub data IsListSpelling : ListName → List Piece → ListValue → Type 0 where
-  initial : (name : ListName) (w : List ℕ) → IsTrue (names w (codes "initial") || names w (codes "unset"))
+pub data IsListSpelling : ListName → List TokenPart → ListValue → Type 0 where
+  initial : (name : ListName) (w : List ℕ) → IsTrue (is_keyword w (codes "initial") || is_keyword w (codes "unset"))
       → IsListSpelling name (Ident w ∷ []) Initial
-  nothing : (w : List ℕ) → IsTrue (names w (codes "none")) → IsListSpelling list.TransitionProperty (Ident w ∷ []) (Properties [])
-  items : (name : ListName) (parts : List Piece) (v : ListValue) → AreItemsOf name parts v → IsListSpelling name parts v
+  nothing : (w : List ℕ) → IsTrue (is_keyword w (codes "none")) → IsListSpelling list.TransitionProperty (Ident w ∷ []) (Properties [])
+  items : (name : ListName) (parts : List TokenPart) (v : ListValue) → AreItemsOf name parts v → IsListSpelling name parts v
 
 -- how many items it has
 abbrev pub item_count : ListValue → ℕ
@@ -132,7 +132,7 @@ item_count (Fills xs) = length xs
 item_count (States xs) = length xs
 
 -- the answer of the reader of these parts, unless memory runs out
-abbrev pub IsListAnswer : ListName → List Piece → Result ListValue ValueFault → Type 0
+abbrev pub IsListAnswer : ListName → List TokenPart → Result ListValue ValueFault → Type 0
 IsListAnswer name parts (Ok v) = IsListSpelling name parts v × (item_count v ≤ MAX_ITEMS) × IsListValueFor name v
 IsListAnswer name parts (Err Unsupported) = (v : ListValue) → IsListSpelling name parts v → ⊥
 IsListAnswer name parts (Err BoundItems) = (v : ListValue) × IsListSpelling name parts v × (MAX_ITEMS < item_count v)

@@ -15,8 +15,8 @@ abbrev pub clamp : ℕ → ℤ → ℤ
 clamp limit v = (if nat_le (unsigned_abs v) limit then v else signed_number (is_minus v) (limit + 1))
 
 -- the nearest number, clamped
-unfoldable pub clamped : ℕ → ℕ → List ℕ → Option ℤ
-clamped places limit text = option_map (clamp limit) (nearest places limit text)
+unfoldable pub clamped_nearest : ℕ → ℕ → List ℕ → Option ℤ
+clamped_nearest places limit text = option_map (clamp limit) (nearest places limit text)
 
 -- the number without its sign, unless it is below 0
 abbrev pub not_negative : ℤ → Option ℕ

@@ -2,8 +2,9 @@
 use Rattle.std.specs.Prelude.{ℕ, ◌==◌, ℤ, pos, Bool, true, false, ◌&&◌, not, nat_le, if◌then◌else◌, unsigned_abs, List, [], ◌∷◌, codes, Option, None, Some}
 use Rattle.std.specs.List.{list_all}
 use Rattle.fix_num.specs.Integer.{has_no_point}
-use Rattle.token_parts.specs.Keywords.{names, look_up}
-use Rattle.token_parts.specs.Parts.{Piece, Ident, Function, Number, Comma, Close}
+use Rattle.token_parts.specs.Keywords.{is_keyword, look_up}
+use Rattle.token_parts.specs.Steps.{◌>>=◌, after_comma}
+use Rattle.token_parts.specs.Parts.{TokenPart, Ident, Function, Number, Comma, Close}
 use Rattle.value_types.specs.Timing.{fewest_steps}
 use Rattle.value_types.specs.declared.easing.Easing.{Easing}
 use Rattle.value_types.specs.declared.easing.Easing.TheVariants.{Linear, Cubic, Steps}
@@ -13,38 +14,27 @@ use Rattle.value_types.specs.declared.limits.TheConstants.{MAX_ORDINATE, MAX_STE
 use Rattle.list_text.specs.Numbers.{not_negative}
 use Rattle.list_text.specs.Easings.{easing_words, jump_words}
 
-infixl 10 ◌>>=◌
--- the next step of what is there, and nothing where nothing is
-abbrev pub ◌>>=◌ : {A B : Type 0} → Option A → (A → Option B) → Option B
-None >>= f = None
-(Some x) >>= f = f x
-
 -- a way of reading numbers: of so many places, with a limit, from a text
 abbrev pub Numbers : Type 0
 Numbers = ℕ → ℕ → List ℕ → Option ℤ
 
 -- the number that comes first, and the rest
-abbrev pub number_at : List Piece → Option (List ℕ × List Piece)
+abbrev pub number_at : List TokenPart → Option (List ℕ × List TokenPart)
 number_at (Number n ∷ ps) = Some (n, ps)
 number_at _ = None
 
--- what stands after a comma
-abbrev pub comma_at : List Piece → Option (List Piece)
-comma_at (Comma ∷ ps) = Some ps
-comma_at _ = None
-
 -- the only word
-abbrev pub word_of : List Piece → Option (List ℕ)
+abbrev pub word_of : List TokenPart → Option (List ℕ)
 word_of (Ident w ∷ []) = Some w
 word_of _ = None
 
 -- only a bracket is left
-abbrev pub is_close : List Piece → Bool
+abbrev pub is_close : List TokenPart → Bool
 is_close (Close ∷ []) = true
 is_close _ = false
 
 -- the word after a comma, with the bracket after it
-abbrev pub last_word : List Piece → Option (List ℕ)
+abbrev pub last_word : List TokenPart → Option (List ℕ)
 last_word (Comma ∷ Ident w ∷ Close ∷ []) = Some w
 last_word _ = None
 
@@ -55,7 +45,7 @@ natural num places limit text = do
   not_negative v
 
 -- the jump that ends the arguments of a step easing
-unfoldable pub jump_of : List Piece → Option Jump
+unfoldable pub jump_of : List TokenPart → Option Jump
 jump_of parts = (if is_close parts then Some End else last_word parts >>= look_up jump_words)
 
 -- the step easing of that many steps
@@ -66,7 +56,7 @@ step_count num text jump =
     else None)
 
 -- the step easing of these arguments
-unfoldable pub steps_of : Numbers → List Piece → Option Easing
+unfoldable pub steps_of : Numbers → List TokenPart → Option Easing
 steps_of num parts = do
   n ← number_at parts
   jump ← jump_of n.1
@@ -77,31 +67,31 @@ unfoldable pub abscissa : Numbers → List ℕ → Option ℤ
 abscissa num text = natural num 3 1000 text >>= (λ n. if nat_le n 1000 then Some (pos n) else None)
 
 -- a control point, and the rest
-unfoldable pub point_at : Numbers → List Piece → Option (ℤ × ℤ × List Piece)
+unfoldable pub point_at : Numbers → List TokenPart → Option (ℤ × ℤ × List TokenPart)
 point_at num parts = do
   a ← number_at parts
-  rest ← comma_at a.1
+  rest ← after_comma a.1
   b ← number_at rest
   x ← abscissa num a.0
   y ← num 3 MAX_ORDINATE b.0
   Some (x, y, b.1)
 
 -- the curve of these arguments
-unfoldable pub curve_of : Numbers → List Piece → Option Easing
+unfoldable pub curve_of : Numbers → List TokenPart → Option Easing
 curve_of num parts = do
   p ← point_at num parts
-  rest ← comma_at p.2
+  rest ← after_comma p.2
   q ← point_at num rest
   if is_close q.2 then Some (Cubic p.0 p.1 q.0 q.1) else None
 
 -- the easing that a function makes
-unfoldable pub function_of : Numbers → List ℕ → List Piece → Option Easing
+unfoldable pub function_of : Numbers → List ℕ → List TokenPart → Option Easing
 function_of num name parts =
-    (if names name (codes "steps") then steps_of num parts
-    else if names name (codes "cubic-bezier") then curve_of num parts else None)
+    (if is_keyword name (codes "steps") then steps_of num parts
+    else if is_keyword name (codes "cubic-bezier") then curve_of num parts else None)
 
 -- the easing that the parts spell
-abbrev pub easing_of : Numbers → List Piece → Option Easing
+abbrev pub easing_of : Numbers → List TokenPart → Option Easing
 easing_of num (Ident w ∷ []) = look_up easing_words w
 easing_of num (Function f ∷ ps) = function_of num f ps
 easing_of num _ = None

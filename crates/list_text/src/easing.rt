@@ -2,18 +2,18 @@
 ghost use Rattle.std.specs.Prelude.{◌≡◌, map, pos, option_map, All};
 ghost use Rattle.css_token.specs.TokenLists.{LiesWithin};
 ghost use Rattle.token_parts.specs.Keywords.{look_up};
-ghost use Rattle.token_parts.specs.Parts.{pieces_of, seen};
+ghost use Rattle.token_parts.specs.Parts.{token_parts_of, token_part};
 ghost use Rattle.value_types.specs.Timing.{fewest_steps};
 ghost use Rattle.list_text.specs.Easings.{IsEasingAnswer, easing_words, jump_words};
 ghost use Rattle.list_text.specs.ItemReading.{Gives, easing_read};
-ghost use Rattle.list_text.specs.Numbers.{clamped};
-ghost use Rattle.list_text.specs.Reading.{abscissa, comma_at, curve_of, easing_of, easing_within, function_of, is_close, jump_of, last_word, number_at, point_at, step_count, steps_of};
+ghost use Rattle.list_text.specs.Numbers.{clamped_nearest};
+ghost use Rattle.list_text.specs.Reading.{abscissa, curve_of, easing_of, easing_within, function_of, is_close, jump_of, last_word, number_at, point_at, step_count, steps_of};
 
 use crate::number::{clamped, natural};
-use fix_num::has_no_point;
 use css_token::Token;
+use fix_num::has_no_point;
 use std::alloc::Global;
-use token_parts::{Part, ValueFault, is_keyword, look_up, parts};
+use token_parts::{Part, ValueFault, after_comma, is_keyword, look_up, parts};
 use value_types::limits::{MAX_ORDINATE, MAX_STEPS};
 use value_types::{Easing, Jump};
 
@@ -25,8 +25,8 @@ const HIGHEST: i64 = MAX_ORDINATE as i64;
 /// number of steps above 1,000,000 or an ordinate outside -10 to 10.
 pub fn read_easing(alloc: Global, text: &str, tokens: &[Token]) -> Result<Easing, ValueFault>
     requires { All (LiesWithin text.now) tokens.now }
-    ensures answer { IsEasingAnswer (pieces_of text.now tokens.now) result }
-    ensures reading { Gives (λ e. e) result (easing_read (pieces_of text.now tokens.now)) }
+    ensures answer { IsEasingAnswer (token_parts_of text.now tokens.now) result }
+    ensures reading { Gives (λ e. e) result (easing_read (token_parts_of text.now tokens.now)) }
 {
     let Ok(parts) = parts(alloc, text.as_bytes(), tokens) else {
         return Err(ValueFault::NoMemory);
@@ -56,7 +56,7 @@ pub(crate) fn is_within(easing: &Easing) -> bool
 
 /// The easing that the parts spell, with its numbers clamped.
 pub(crate) fn easing_of(parts: &[Part]) -> Option<Easing>
-    ensures { result ≡ easing_of clamped (map seen parts.now) }
+    ensures { result ≡ easing_of clamped_nearest (map token_part parts.now) }
 {
     match parts {
         [Part::Ident(word)] => easing_word(word),
@@ -118,7 +118,7 @@ fn jump_word(word: &[u8]) -> Option<Jump>
 
 #[tactic(auto, unfolding(crate::specs::Reading::function_of))]
 fn function_of(name: &[u8], parts: &[Part]) -> Option<Easing>
-    ensures { result ≡ function_of clamped name.now (map seen parts.now) }
+    ensures { result ≡ function_of clamped_nearest name.now (map token_part parts.now) }
 {
     if is_keyword(name, b"steps") {
         steps_of(parts)
@@ -131,7 +131,7 @@ fn function_of(name: &[u8], parts: &[Part]) -> Option<Easing>
 
 #[tactic(auto, unfolding(crate::specs::Reading::steps_of))]
 fn steps_of(parts: &[Part]) -> Option<Easing>
-    ensures { result ≡ steps_of clamped (map seen parts.now) }
+    ensures { result ≡ steps_of clamped_nearest (map token_part parts.now) }
 {
     let (number, rest) = number_at(parts)?;
     let jump = jump_of(rest)?;
@@ -140,7 +140,7 @@ fn steps_of(parts: &[Part]) -> Option<Easing>
 
 #[tactic(auto, unfolding(crate::specs::Reading::jump_of))]
 fn jump_of(parts: &[Part]) -> Option<Jump>
-    ensures { result ≡ jump_of (map seen parts.now) }
+    ensures { result ≡ jump_of (map token_part parts.now) }
 {
     if is_close(parts) {
         return Some(Jump::End);
@@ -150,7 +150,7 @@ fn jump_of(parts: &[Part]) -> Option<Jump>
 
 #[tactic(auto, unfolding(crate::specs::Reading::step_count))]
 fn step_count(number: &[u8], jump: Jump) -> Option<Easing>
-    ensures { result ≡ step_count clamped number.now jump }
+    ensures { result ≡ step_count clamped_nearest number.now jump }
 {
     if !has_no_point(number) {
         return None;
@@ -176,10 +176,10 @@ fn fewest_steps(jump: Jump) -> u32
 
 #[tactic(auto, unfolding(crate::specs::Reading::curve_of))]
 fn curve_of(parts: &[Part]) -> Option<Easing>
-    ensures { result ≡ curve_of clamped (map seen parts.now) }
+    ensures { result ≡ curve_of clamped_nearest (map token_part parts.now) }
 {
     let (x1, y1, rest) = point_at(parts)?;
-    let (x2, y2, rest) = point_at(comma_at(rest)?)?;
+    let (x2, y2, rest) = point_at(after_comma(rest)?)?;
     if !is_close(rest) {
         return None;
     }
@@ -189,16 +189,16 @@ fn curve_of(parts: &[Part]) -> Option<Easing>
 /// A control point in thousandths, and the rest.
 #[tactic(auto, unfolding(crate::specs::Reading::point_at))]
 fn point_at<'a, 'b>(parts: &'b [Part<'a>]) -> Option<(i32, i32, &'b [Part<'a>])>
-    ensures { option_map (λ p. (p.0, p.1, map seen p.2.now)) result ≡ point_at clamped (map seen parts.now) }
+    ensures { option_map (λ p. (p.0, p.1, map token_part p.2.now)) result ≡ point_at clamped_nearest (map token_part parts.now) }
 {
     let (x, rest) = number_at(parts)?;
-    let (y, rest) = number_at(comma_at(rest)?)?;
+    let (y, rest) = number_at(after_comma(rest)?)?;
     Some((abscissa(x)?, ordinate(y)?, rest))
 }
 
 #[tactic(auto, unfolding(crate::specs::Reading::abscissa))]
 fn abscissa(number: &[u8]) -> Option<i32>
-    ensures { result ≡ abscissa clamped number.now }
+    ensures { result ≡ abscissa clamped_nearest number.now }
 {
     let x = natural(number, 3, 1000)?;
     if x > 1000 {
@@ -208,13 +208,13 @@ fn abscissa(number: &[u8]) -> Option<i32>
 }
 
 fn ordinate(number: &[u8]) -> Option<i32>
-    ensures { result ≡ clamped 3 MAX_ORDINATE number.now }
+    ensures { result ≡ clamped_nearest 3 MAX_ORDINATE number.now }
 {
     Some(clamped(number, 3, HIGHEST)? as i32)
 }
 
 fn number_at<'a, 'b>(parts: &'b [Part<'a>]) -> Option<(&'a [u8], &'b [Part<'a>])>
-    ensures { option_map (λ p. (p.0.now, map seen p.1.now)) result ≡ number_at (map seen parts.now) }
+    ensures { option_map (λ p. (p.0.now, map token_part p.1.now)) result ≡ number_at (map token_part parts.now) }
 {
     match parts {
         [Part::Number(number), rest @ ..] => Some((number, rest)),
@@ -222,23 +222,14 @@ fn number_at<'a, 'b>(parts: &'b [Part<'a>]) -> Option<(&'a [u8], &'b [Part<'a>])
     }
 }
 
-fn comma_at<'a, 'b>(parts: &'b [Part<'a>]) -> Option<&'b [Part<'a>]>
-    ensures { option_map (λ rest. map seen rest.now) result ≡ comma_at (map seen parts.now) }
-{
-    match parts {
-        [Part::Comma, rest @ ..] => Some(rest),
-        _ => None,
-    }
-}
-
 fn is_close(parts: &[Part]) -> bool
-    ensures { result ≡ is_close (map seen parts.now) }
+    ensures { result ≡ is_close (map token_part parts.now) }
 {
     matches!(parts, [Part::Close])
 }
 
 fn last_word<'a>(parts: &[Part<'a>]) -> Option<&'a [u8]>
-    ensures { option_map (λ word. word.now) result ≡ last_word (map seen parts.now) }
+    ensures { option_map (λ word. word.now) result ≡ last_word (map token_part parts.now) }
 {
     match parts {
         [Part::Comma, Part::Ident(word), Part::Close] => Some(word),

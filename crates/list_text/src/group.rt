@@ -1,6 +1,6 @@
 //! The groups of parts between commas.
 ghost use Rattle.std.specs.Prelude.{◌≡◌, false, map, IfOk};
-ghost use Rattle.token_parts.specs.Parts.{seen};
+ghost use Rattle.token_parts.specs.Parts.{token_part};
 ghost use Rattle.list_text.specs.ItemReading.{groups_of, is_inside, parts_items};
 
 use std::alloc::{AllocError, Global};
@@ -11,7 +11,7 @@ pub(crate) fn groups<'a, 'b>(
     alloc: Global,
     parts: &'b [Part<'a>],
 ) -> Result<Vec<&'b [Part<'a>]>, AllocError>
-    ensures { IfOk result (λ v. map (λ g. map seen g.now) v.items ≡ groups_of false (map seen parts.now)) }
+    ensures { IfOk result (λ v. map (λ g. map token_part g.now) v.items ≡ groups_of false (map token_part parts.now)) }
 {
     let mut groups = Vec::new(alloc);
     let mut from: usize = 0;
@@ -31,14 +31,14 @@ pub(crate) fn groups<'a, 'b>(
 
 /// Whether the part is a comma outside brackets.
 fn parts_items(inside: bool, part: &Part) -> bool
-    ensures { result ≡ parts_items inside (seen part.now) }
+    ensures { result ≡ parts_items inside (token_part part.now) }
 {
     !inside && matches!(part, Part::Comma)
 }
 
 /// Whether a bracket is open after the part.
 fn is_inside(inside: bool, part: &Part) -> bool
-    ensures { result ≡ is_inside inside (seen part.now) }
+    ensures { result ≡ is_inside inside (token_part part.now) }
 {
     match part {
         Part::Function(_) => true,

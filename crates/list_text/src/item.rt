@@ -1,10 +1,10 @@
 //! Items of timing lists.
 ghost use Rattle.std.specs.Prelude.{◌≡◌, pos, Bool, List, Option, map, true, IfOk, option_map};
 ghost use Rattle.token_parts.specs.Keywords.{look_up};
-ghost use Rattle.token_parts.specs.Parts.{Piece, seen};
+ghost use Rattle.token_parts.specs.Parts.{TokenPart, token_part};
 ghost use Rattle.value_types.specs.declared.list_value.ListName.{ListName};
 ghost use Rattle.list_text.specs.Lists.{direction_words, fill_words, state_words, shorthand_words, name_of_word, property_of_word};
-ghost use Rattle.list_text.specs.Numbers.{clamped};
+ghost use Rattle.list_text.specs.Numbers.{clamped_nearest};
 ghost use Rattle.list_text.specs.Reading.{easing_of, easing_within, natural, word_of};
 ghost use Rattle.list_text.specs.ItemReading.{count_of, count_within, count_word, has_sign, micros_of, micros_within, time_of, time_with, word_item};
 
@@ -26,12 +26,12 @@ const MOST: i64 = MAX_NUMBER as i64;
 /// What stands between the commas of a list.
 pub(crate) trait Item: Drop + Sized {
     /// The item of the list that the parts spell, with its numbers clamped.
-    ghost item_of: { ListName → List Piece → Option Self };
+    ghost item_of: { ListName → List TokenPart → Option Self };
 
     ghost within: { Self → Bool };
 
     fn read(alloc: Global, name: ListName, parts: &[Part]) -> Result<Option<Self>, AllocError>
-        ensures { IfOk result (λ o. o ≡ item_of name (map seen parts.now)) };
+        ensures { IfOk result (λ o. o ≡ item_of name (map token_part parts.now)) };
 
     /// Whether its numbers are within their limits.
     fn is_within(&self) -> bool
@@ -76,7 +76,7 @@ impl Item for Option<Name> {
 }
 
 impl Item for Micros {
-    ghost item_of = { λ name parts. micros_of clamped (has_sign name) parts };
+    ghost item_of = { λ name parts. micros_of clamped_nearest (has_sign name) parts };
 
     ghost within = { λ x. micros_within x };
 
@@ -90,7 +90,7 @@ impl Item for Micros {
 }
 
 impl Item for Easing {
-    ghost item_of = { λ name parts. easing_of clamped parts };
+    ghost item_of = { λ name parts. easing_of clamped_nearest parts };
 
     ghost within = { λ x. easing_within x };
 
@@ -104,7 +104,7 @@ impl Item for Easing {
 }
 
 impl Item for Count {
-    ghost item_of = { λ name parts. count_of clamped parts };
+    ghost item_of = { λ name parts. count_of clamped_nearest parts };
 
     ghost within = { λ x. count_within x };
 
@@ -164,7 +164,7 @@ impl Item for PlayState {
 
 /// The only word.
 fn word_of<'a>(parts: &[Part<'a>]) -> Option<&'a [u8]>
-    ensures { option_map (λ word. word.now) result ≡ word_of (map seen parts.now) }
+    ensures { option_map (λ word. word.now) result ≡ word_of (map token_part parts.now) }
 {
     match parts {
         [Part::Ident(word)] => Some(word),
@@ -173,7 +173,7 @@ fn word_of<'a>(parts: &[Part<'a>]) -> Option<&'a [u8]>
 }
 
 fn property_item(parts: &[Part]) -> Option<PropertyItem>
-    ensures { result ≡ word_item property_of_word (map seen parts.now) }
+    ensures { result ≡ word_item property_of_word (map token_part parts.now) }
 {
     property_of_word(word_of(parts)?)
 }
@@ -222,7 +222,7 @@ fn has_sign(name: ListName) -> bool
 
 #[tactic(auto, unfolding(crate::specs::ItemReading::micros_of))]
 fn micros_of(signed: bool, parts: &[Part]) -> Option<Micros>
-    ensures { result ≡ micros_of clamped signed (map seen parts.now) }
+    ensures { result ≡ micros_of clamped_nearest signed (map token_part parts.now) }
 {
     let time = time_of(parts)?;
     if !signed && time < 0 {
@@ -232,7 +232,7 @@ fn micros_of(signed: bool, parts: &[Part]) -> Option<Micros>
 }
 
 fn time_of(parts: &[Part]) -> Option<i64>
-    ensures { result ≡ time_of clamped (map seen parts.now) }
+    ensures { result ≡ time_of clamped_nearest (map token_part parts.now) }
 {
     match parts {
         [Part::Dimension { number, unit }] => time_with(number, unit),
@@ -243,7 +243,7 @@ fn time_of(parts: &[Part]) -> Option<i64>
 /// The time in microseconds.
 #[tactic(auto, unfolding(crate::specs::ItemReading::time_with))]
 fn time_with(number: &[u8], unit: &[u8]) -> Option<i64>
-    ensures { result ≡ time_with clamped number.now unit.now }
+    ensures { result ≡ time_with clamped_nearest number.now unit.now }
 {
     if is_keyword(unit, b"s") {
         clamped(number, 6, LONGEST)
@@ -255,7 +255,7 @@ fn time_with(number: &[u8], unit: &[u8]) -> Option<i64>
 }
 
 fn count_of(parts: &[Part]) -> Option<Count>
-    ensures { result ≡ count_of clamped (map seen parts.now) }
+    ensures { result ≡ count_of clamped_nearest (map token_part parts.now) }
 {
     match parts {
         [Part::Ident(word)] => count_word(word),
@@ -274,14 +274,14 @@ fn count_word(word: &[u8]) -> Option<Count>
 }
 
 fn count_number(number: &[u8]) -> Option<Count>
-    ensures { result ≡ option_map (λ k. Count.Times (record { 0 = pos k })) (natural clamped 6 MAX_NUMBER number.now) }
+    ensures { result ≡ option_map (λ k. Count.Times (record { 0 = pos k })) (natural clamped_nearest 6 MAX_NUMBER number.now) }
 {
     let count = natural(number, 6, MOST)?;
     Some(Count::Times(Fix(count as i64)))
 }
 
 fn direction(parts: &[Part]) -> Option<Direction>
-    ensures { result ≡ word_item (look_up direction_words) (map seen parts.now) }
+    ensures { result ≡ word_item (look_up direction_words) (map token_part parts.now) }
 {
     look_up(
         &[
@@ -295,7 +295,7 @@ fn direction(parts: &[Part]) -> Option<Direction>
 }
 
 fn fill(parts: &[Part]) -> Option<Fill>
-    ensures { result ≡ word_item (look_up fill_words) (map seen parts.now) }
+    ensures { result ≡ word_item (look_up fill_words) (map token_part parts.now) }
 {
     look_up(
         &[
@@ -309,7 +309,7 @@ fn fill(parts: &[Part]) -> Option<Fill>
 }
 
 fn state(parts: &[Part]) -> Option<PlayState>
-    ensures { result ≡ word_item (look_up state_words) (map seen parts.now) }
+    ensures { result ≡ word_item (look_up state_words) (map token_part parts.now) }
 {
     look_up(
         &[

@@ -1,4 +1,6 @@
-//! The easings and the timing lists that the tokens of a value spell.
+//! Floor: values. Knows no element and no time: the easings and the timing lists that the tokens of a value spell.
+//!
+//! `read_easing(alloc, "ease", tokens)` is the easing of that keyword, and `read_list` reads the items of a list.
 #![tactic(auto)]
 
 mod easing;
@@ -7,8 +9,6 @@ mod item;
 mod laws;
 mod list;
 mod number;
-#[cfg(test)]
-mod tests;
 
 pub use easing::read_easing;
 pub use laws::{easing_as_spelled, list_as_spelled, one_easing, one_list};

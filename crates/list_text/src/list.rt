@@ -2,11 +2,11 @@
 ghost use Rattle.std.specs.Prelude.{◌≡◌, false, map, All, IfOk, option_map, codes, ◌||◌};
 ghost use Rattle.std.specs.List.{list_all};
 ghost use Rattle.css_token.specs.TokenLists.{LiesWithin};
-ghost use Rattle.token_parts.specs.Keywords.{names};
-ghost use Rattle.token_parts.specs.Parts.{pieces_of, seen};
-ghost use Rattle.list_text.specs.ItemReading.{Gives, each_of, has_sign, is_initial, is_word, items_of, list_of, micros_of, micros_within, properties_of, result_map, value_of};
+ghost use Rattle.token_parts.specs.Keywords.{is_keyword};
+ghost use Rattle.token_parts.specs.Parts.{token_parts_of, token_part};
+ghost use Rattle.list_text.specs.ItemReading.{Gives, each_of, has_sign, is_initial, is_word, items_of, list_of, micros_of, micros_within, properties_of, result_map, list_value_of};
 ghost use Rattle.list_text.specs.Lists.{IsListAnswer};
-ghost use Rattle.list_text.specs.Numbers.{clamped};
+ghost use Rattle.list_text.specs.Numbers.{clamped_nearest};
 
 use crate::group::groups;
 use crate::item::Item;
@@ -26,8 +26,8 @@ pub fn read_list(
     tokens: &[Token],
 ) -> Result<ListValue, ValueFault>
     requires { All (LiesWithin text.now) tokens.now }
-    ensures answer { IsListAnswer name (pieces_of text.now tokens.now) result }
-    ensures reading { Gives (λ v. v) result (list_of name (pieces_of text.now tokens.now)) }
+    ensures answer { IsListAnswer name (token_parts_of text.now tokens.now) result }
+    ensures reading { Gives (λ v. v) result (list_of name (token_parts_of text.now tokens.now)) }
 {
     let Ok(parts) = parts(alloc, text.as_bytes(), tokens) else {
         return Err(ValueFault::NoMemory);
@@ -36,7 +36,7 @@ pub fn read_list(
 }
 
 fn list_of(alloc: Global, name: ListName, parts: &[Part]) -> Result<ListValue, ValueFault>
-    ensures { Gives (λ v. v) result (list_of name (map seen parts.now)) }
+    ensures { Gives (λ v. v) result (list_of name (map token_part parts.now)) }
 {
     if is_initial(parts) {
         return Ok(ListValue::Initial);
@@ -45,7 +45,7 @@ fn list_of(alloc: Global, name: ListName, parts: &[Part]) -> Result<ListValue, V
 }
 
 fn is_initial(parts: &[Part]) -> bool
-    ensures { result ≡ is_initial (map seen parts.now) }
+    ensures { result ≡ is_initial (map token_part parts.now) }
 {
     match parts {
         [Part::Ident(word)] => is_keyword(word, b"initial") || is_keyword(word, b"unset"),
@@ -54,7 +54,7 @@ fn is_initial(parts: &[Part]) -> bool
 }
 
 fn value_of(alloc: Global, name: ListName, parts: &[Part]) -> Result<ListValue, ValueFault>
-    ensures { Gives (λ v. v) result (value_of name (map seen parts.now)) }
+    ensures { Gives (λ v. v) result (list_value_of name (map token_part parts.now)) }
 {
     match name {
         ListName::TransitionProperty => properties_of(alloc, parts),
@@ -74,14 +74,14 @@ fn value_of(alloc: Global, name: ListName, parts: &[Part]) -> Result<ListValue, 
 
 /// Durations or delays.
 fn times(alloc: Global, name: ListName, parts: &[Part]) -> Result<ListValue, ValueFault>
-    ensures { Gives (λ v. v) result (result_map ListValue.Times (items_of (micros_of clamped (has_sign name)) micros_within (map seen parts.now))) }
+    ensures { Gives (λ v. v) result (result_map ListValue.Times (items_of (micros_of clamped_nearest (has_sign name)) micros_within (map token_part parts.now))) }
 {
     items_of(alloc, name, parts).map(ListValue::Times)
 }
 
 #[tactic(auto, unfolding(crate::specs::ItemReading::properties_of))]
 fn properties_of(alloc: Global, parts: &[Part]) -> Result<ListValue, ValueFault>
-    ensures { Gives (λ v. v) result (properties_of (map seen parts.now)) }
+    ensures { Gives (λ v. v) result (properties_of (map token_part parts.now)) }
 {
     if is_none(parts) {
         return Ok(ListValue::Properties(Items::new(alloc)));
@@ -90,7 +90,7 @@ fn properties_of(alloc: Global, parts: &[Part]) -> Result<ListValue, ValueFault>
 }
 
 fn is_none(parts: &[Part]) -> bool
-    ensures { result ≡ is_word (λ w. names w (codes "none")) (map seen parts.now) }
+    ensures { result ≡ is_word (λ w. is_keyword w (codes "none")) (map token_part parts.now) }
 {
     match parts {
         [Part::Ident(word)] => is_keyword(word, b"none"),
@@ -100,7 +100,7 @@ fn is_none(parts: &[Part]) -> bool
 
 /// The items of the list, at most 32.
 fn items_of<T: Item>(alloc: Global, name: ListName, parts: &[Part]) -> Result<Items<T>, ValueFault>
-    ensures { Gives (λ v. v) result (items_of (T.item_of name) T.within (map seen parts.now)) }
+    ensures { Gives (λ v. v) result (items_of (T.item_of name) T.within (map token_part parts.now)) }
 {
     let Ok(groups) = groups(alloc, parts) else {
         return Err(ValueFault::NoMemory);
@@ -126,7 +126,7 @@ fn each_of<T: Item>(
     name: ListName,
     groups: &[&[Part]],
 ) -> Result<Option<Vec<T>>, AllocError>
-    ensures { IfOk result (λ o. option_map (λ v. v.items) o ≡ each_of (T.item_of name) (map (λ g. map seen g.now) groups.now)) }
+    ensures { IfOk result (λ o. option_map (λ v. v.items) o ≡ each_of (T.item_of name) (map (λ g. map token_part g.now) groups.now)) }
 {
     let mut items = Vec::new(alloc);
     for group in groups {

@@ -1,19 +1,19 @@
 //! Numbers past their limits.
 ghost use Rattle.std.specs.Prelude.{◌≡◌, ◌+◌, ◌^◌, ◌==◌, ◌≤◌, pos, ◌≤ℤ◌, unsigned_abs, slice_index};
 ghost use Rattle.fix_num.specs.Decimal.{signed_number};
-ghost use Rattle.list_text.specs.Numbers.{clamped, not_negative};
+ghost use Rattle.list_text.specs.Numbers.{clamped_nearest, not_negative};
 ghost use Rattle.list_text.specs.Reading.{natural};
 
 use fix_num::{NumFault, read_rounded_bytes};
 
 /// The whole number of units of `10^-places` nearest to the number that the text spells; where its size
 /// passes the limit, one past the limit; `None` where the text is no number.
-#[tactic(auto, unfolding(crate::specs::Numbers::clamped))]
+#[tactic(auto, unfolding(crate::specs::Numbers::clamped_nearest))]
 pub(crate) fn clamped(text: &[u8], places: u32, limit: i64) -> Option<i64>
     requires few { places ≤ 9 }
     requires low { pos 0 ≤ℤ limit }
     requires high { limit ≤ℤ pos (10 ^ 15) }
-    ensures { result ≡ clamped places (unsigned_abs limit) text.now }
+    ensures { result ≡ clamped_nearest places (unsigned_abs limit) text.now }
 {
     match read_rounded_bytes(text, places, limit) {
         Ok(number) => Some(number),
@@ -42,7 +42,7 @@ pub(crate) fn natural(text: &[u8], places: u32, limit: i64) -> Option<u64>
     requires few { places ≤ 9 }
     requires low { pos 0 ≤ℤ limit }
     requires high { limit ≤ℤ pos (10 ^ 15) }
-    ensures { result ≡ natural clamped places (unsigned_abs limit) text.now }
+    ensures { result ≡ natural clamped_nearest places (unsigned_abs limit) text.now }
 {
     not_negative(clamped(text, places, limit)?)
 }

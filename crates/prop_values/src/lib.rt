@@ -1,16 +1,15 @@
-//! The values of the 24 properties and of the timing lists, in one place: their types and table, the readers
-//! of their text, computed values, and their printed form. `PropertyId::by_name("opacity")`, then
-//! `read_value`, `absolute` and `print_value` take a value from a style text to a transcript.
+//! Floor: values. Knows no element and no time: the values of the 24 properties and of the timing lists in one
+//! place, their types and table, the readers of their text, computed values, and their printed form.
+//!
+//! `PropertyId::by_name("opacity")`, then `read_value`, `absolute` and `print_value` take a value from a style text
+//! to a transcript.
 #![tactic(auto)]
 
-#[cfg(test)]
-mod tests;
-
+pub use computed_value::absolute;
 pub use list_text::{
     easing_as_spelled, list_as_spelled, one_easing, one_list, read_easing, read_list,
 };
 pub use token_parts::ValueFault;
-pub use computed_value::absolute;
 pub use value_print::print_value;
 pub use value_text::{one_value, read_value, reading_is_exact, spelled_is_declared};
 pub use value_types::{

@@ -1,10 +1,10 @@
-//! Keywords, whose ASCII case doesn't count (CSS Values 4, section 2.4).
+//! Keywords, whose ASCII case doesn't count (CSS Values 4, "Pre-defined Keywords").
 ghost use Rattle.std.specs.Prelude.{◌≡◌, map};
-ghost use Rattle.token_parts.specs.Keywords.{look_up, names};
+ghost use Rattle.token_parts.specs.Keywords.{look_up, is_keyword};
 
 /// Whether the word is this keyword, whatever the ASCII case of either.
 pub fn is_keyword(word: &[u8], keyword: &[u8]) -> bool
-    ensures { result ≡ names word.now keyword.now }
+    ensures { result ≡ is_keyword word.now keyword.now }
 {
     word.eq_ignore_ascii_case(keyword)
 }

@@ -1,7 +1,8 @@
 //! Parts: what tokens say.
 ghost use Rattle.std.specs.Prelude.{◌≡◌, ◌++◌, All, List, map, IfOk, OnOk, option_map, option_to_list};
 ghost use Rattle.css_token.specs.TokenLists.{LiesWithin};
-ghost use Rattle.token_parts.specs.Parts.{piece_of, pieces_of, seen};
+ghost use Rattle.token_parts.specs.Steps.{after_comma};
+ghost use Rattle.token_parts.specs.Parts.{token_part_at, token_parts_of, token_part};
 
 use css_token::{Kind, Token};
 use std::alloc::{AllocError, Global};
@@ -13,7 +14,7 @@ pub enum Part<'a> {
     Ident(&'a [u8]),
     /// A function's name, without its `(`.
     Function(&'a [u8]),
-    /// The name behind a `#`.
+    /// The name after a `#`.
     Hash(&'a [u8]),
     /// A number.
     Number(&'a [u8]),
@@ -36,7 +37,7 @@ pub fn parts<'a>(
     tokens: &[Token],
 ) -> Result<Vec<Part<'a>>, AllocError>
     requires { All (LiesWithin text.now) tokens.now }
-    ensures { IfOk result (λ parts. map seen parts.items ≡ pieces_of text.now tokens.now) }
+    ensures { IfOk result (λ parts. map token_part parts.items ≡ token_parts_of text.now tokens.now) }
 {
     let mut parts = Vec::new(alloc);
     for token in tokens {
@@ -57,7 +58,7 @@ fn push_some<'a>(parts: &mut Vec<Part<'a>>, part: Option<Part<'a>>) -> Result<()
 /// What the token says; `None` for a space.
 fn part_of<'a>(text: &'a [u8], token: &Token) -> Option<Part<'a>>
     requires { LiesWithin text.now token.now }
-    ensures { option_map seen result ≡ piece_of text.now token.now.kind token.now.from token.now.to }
+    ensures { option_map token_part result ≡ token_part_at text.now token.now.kind token.now.from token.now.to }
 {
     let from = token.from as usize;
     let to = token.to as usize;
@@ -75,5 +76,15 @@ fn part_of<'a>(text: &'a [u8], token: &Token) -> Option<Part<'a>>
         Kind::Comma => Some(Part::Comma),
         Kind::RoundClose => Some(Part::Close),
         _ => Some(Part::Other),
+    }
+}
+
+/// The parts after a comma, where they begin with one.
+pub fn after_comma<'a, 'b>(parts: &'b [Part<'a>]) -> Option<&'b [Part<'a>]>
+    ensures { option_map (λ rest. map token_part rest.now) result ≡ after_comma (map token_part parts.now) }
+{
+    match parts {
+        [Part::Comma, rest @ ..] => Some(rest),
+        _ => None,
     }
 }

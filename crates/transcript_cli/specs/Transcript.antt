@@ -3,7 +3,7 @@ use Rattle.std.specs.Prelude.{ℕ, ◌+◌, ℤ, Bool, true, false, ◌||◌, Li
 use Rattle.std.specs.Option.{option_map_or}
 use Rattle.fix_num.specs.Print.{decimal_text}
 use Rattle.text_io.specs.Lines.{lines_of}
-use Rattle.value_print.specs.Printed.{shown}
+use Rattle.value_print.specs.Printed.{serialized_value}
 use Rattle.value_types.specs.declared.value.Value.{Value}
 use Rattle.transcript_cli.specs.declared.event.EventKind.{EventKind}
 use Rattle.transcript_cli.specs.declared.event.EventKind.TheVariants.{Run, Start, End}
@@ -34,7 +34,7 @@ event_line n e = event_name n e.kind ++ decimal_text 6 e.elapsed ++ codes "\n"
 
 -- `value N opacity V`
 unfoldable pub value_line : ℕ → Value → List ℕ
-value_line n v = codes "value " ++ decimal n ++ codes " opacity " ++ shown v ++ codes "\n"
+value_line n v = codes "value " ++ decimal n ++ codes " opacity " ++ serialized_value v ++ codes "\n"
 
 -- `refused L R`
 unfoldable pub refused_line : ℕ → Refusal → List ℕ

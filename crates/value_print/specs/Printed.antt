@@ -50,14 +50,14 @@ color_text r g b a =
     else codes "rgba(" ++ channels_text r g b ++ codes ", " ++ number_text a.0 (codes ")"))
 
 -- the printed form of a computed value, of whatever property
-abbrev pub shown : Value → List ℕ
-shown (value.Number n) = number_text n.0 []
-shown (value.Length px pct) = size_text px pct
-shown value.Auto = codes "auto"
-shown (value.Int i) = whole_text i
-shown (value.Color r g b a) = color_text r g b a
-shown (value.Angle n) = number_text n.0 (codes "deg")
-shown (value.Pair x_px x_pct y_px y_pct) = pair_text x_px x_pct y_px y_pct
-shown value.Absent = codes "none"
-shown (value.Visible v) = keyword_of_visibility v
-shown (value.Display d) = keyword_of_display d
+abbrev pub serialized_value : Value → List ℕ
+serialized_value (value.Number n) = number_text n.0 []
+serialized_value (value.Length px pct) = size_text px pct
+serialized_value value.Auto = codes "auto"
+serialized_value (value.Int i) = whole_text i
+serialized_value (value.Color r g b a) = color_text r g b a
+serialized_value (value.Angle n) = number_text n.0 (codes "deg")
+serialized_value (value.Pair x_px x_pct y_px y_pct) = pair_text x_px x_pct y_px y_pct
+serialized_value value.Absent = codes "none"
+serialized_value (value.Visible v) = keyword_of_visibility v
+serialized_value (value.Display d) = keyword_of_display d

@@ -1,7 +1,7 @@
 //! Computed values as text.
 ghost use Rattle.std.specs.Prelude.{◌≡◌, ◌++◌, codes, pos, unsigned_abs, OnErr, OnOk};
 ghost use Rattle.std.specs.Io.{StartsWith};
-ghost use Rattle.value_print.specs.Printed.{color_text, number_text, pair_text, shown, sign_text, size_text, sum_text, whole_text};
+ghost use Rattle.value_print.specs.Printed.{color_text, number_text, pair_text, serialized_value, sign_text, size_text, sum_text, whole_text};
 
 use crate::pieces::{push_channels, push_number, push_text};
 use fix_num::{Fix, print_fix};
@@ -11,7 +11,7 @@ use value_types::{PropertyId, Value};
 /// Appends the printed form of a computed value, which doesn't depend on the property (CSSOM, "Serializing
 /// CSS Values"). Where memory runs out nothing is appended.
 pub fn print_value(out: &mut Vec<u8>, _p: PropertyId, v: Value) -> Result<(), AllocError>
-    ensures ok { OnOk result (out.new.items ≡ out.old.items ++ shown v) }
+    ensures ok { OnOk result (out.new.items ≡ out.old.items ++ serialized_value v) }
     ensures err { OnErr result (out.new.items ≡ out.old.items) }
 {
     let before = out.len();
@@ -24,7 +24,7 @@ pub fn print_value(out: &mut Vec<u8>, _p: PropertyId, v: Value) -> Result<(), Al
 
 #[tactic(auto, using(crate::proofs::Appending::starts_with_more))]
 fn push_value(out: &mut Vec<u8>, v: Value) -> Result<(), AllocError>
-    ensures ok { OnOk result (out.new.items ≡ out.old.items ++ shown v) }
+    ensures ok { OnOk result (out.new.items ≡ out.old.items ++ serialized_value v) }
     ensures kept { StartsWith out.new.items out.old.items }
 {
     match v {

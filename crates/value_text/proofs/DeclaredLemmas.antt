@@ -10,12 +10,12 @@ use Rattle.fix_num.specs.Rounding.{rounded_quotient}
 use Rattle.fix_num.specs.declared.units.Fix.{Fix}
 use Rattle.fix_num.proofs.RoundingLemmas.{rounded_size}
 use Rattle.token_parts.specs.Keywords.{look_up}
-use Rattle.token_parts.specs.Parts.{Piece}
+use Rattle.token_parts.specs.Parts.{TokenPart}
 use Rattle.token_parts.proofs.KeywordLemmas.{row_passes}
 use Rattle.token_parts.specs.declared.fault.ValueFault.{ValueFault}
 use Rattle.value_types.specs.Table.{is_inherited, takes}
 use Rattle.value_types.specs.Ranges.{IsInRange, IsWithinLimit}
-use Rattle.value_types.specs.Validity.{IsAlpha, IsDeclaredFor, IsDeclaredNumberFor, IsRgba, IsSizeFor, declared_range_of, kind_of}
+use Rattle.value_types.specs.Validity.{IsAlpha, IsDeclaredFor, IsDeclaredNumberFor, IsRgba, IsSizeFor, declared_range_of, kind_of_unit}
 use Rattle.value_types.specs.declared.declared.Declared.{Declared}
 use Rattle.value_types.specs.declared.declared.Declared.TheVariants as declared
 use Rattle.value_types.specs.declared.declared.Size.{Size}
@@ -32,16 +32,16 @@ use Rattle.value_text.specs.declared.cascade.Keyword.TheVariants as cascade
 use Rattle.value_text.specs.declared.color.Rgba.{Rgba}
 use Rattle.value_text.specs.Colors.{IsColor, alpha_of, color_named, color_words, digit_of, double_of, hex_color, hex_digits, opaque, pair_of, rgba}
 use Rattle.value_text.specs.Colors as colors
-use Rattle.value_text.specs.Numbers.{IsNumber}
+use Rattle.value_text.specs.Numbers.{IsNumberText}
 use Rattle.value_text.specs.Sizes.{IsLength, IsPercent, length_units, zero_pixels}
 use Rattle.value_text.specs.Sizes as sizes
-use Rattle.value_text.specs.Spelling.{IsAnswer, IsPart, IsSpelled, IsSpelling, cascade_keyword, colored, declared_by, declared_percent}
+use Rattle.value_text.specs.Spelling.{IsValueAnswer, IsPart, IsSpelled, IsSpelling, cascade_keyword, declared_color, declared_by, declared_percent}
 use Rattle.value_text.specs.Spelling as spelling
 use Rattle.value_text.proofs.HexLemmas.{hex_at}
 
 -- ---- numbers
 
-in_limits : (p : PropertyId) (text : List ℕ) (n : Fix) → IsNumber true (declared_range_of p) text n → IsDeclaredNumberFor p n
+in_limits : (p : PropertyId) (text : List ℕ) (n : Fix) → IsNumberText true (declared_range_of p) text n → IsDeclaredNumberFor p n
 in_limits p text n h = record { limit = h.limit refl; in_range = h.in_range }
 
 none_in_range : (r : ValueRange) → IsInRange r (record { 0 = pos 0 })
@@ -55,16 +55,16 @@ none_in_limits p = record { limit = omega (arith, ints); in_range = none_in_rang
 
 -- ---- lengths and percents
 
-units_at : (a b c : Bool) (u : «Unit») → cond a (Some unit.Px) (cond b (Some unit.Em) (cond c (Some unit.Rem) None)) ≡ Some u → kind_of u ≡ kind.Length
-units_at true b c u h = let same : unit.Px ≡ u = cc in ap kind_of (sym same)
-units_at false true c u h = let same : unit.Em ≡ u = cc in ap kind_of (sym same)
-units_at false false true u h = let same : unit.Rem ≡ u = cc in ap kind_of (sym same)
+units_at : (a b c : Bool) (u : «Unit») → cond a (Some unit.Px) (cond b (Some unit.Em) (cond c (Some unit.Rem) None)) ≡ Some u → kind_of_unit u ≡ kind.Length
+units_at true b c u h = let same : unit.Px ≡ u = cc in ap kind_of_unit (sym same)
+units_at false true c u h = let same : unit.Em ≡ u = cc in ap kind_of_unit (sym same)
+units_at false false true u h = let same : unit.Rem ≡ u = cc in ap kind_of_unit (sym same)
 units_at false false false u h = absurd (cc)
 
-unit_of_length : (word : List ℕ) (u : «Unit») → look_up length_units word ≡ Some u → kind_of u ≡ kind.Length
+unit_of_length : (word : List ℕ) (u : «Unit») → look_up length_units word ≡ Some u → kind_of_unit u ≡ kind.Length
 unit_of_length word u h = units_at _ _ _ u h
 
-length_size : (p : PropertyId) (part : Piece) (s : Size) → IsTrue (takes p kind.Length) → IsLength true (declared_range_of p) part s → IsSizeFor p s
+length_size : (p : PropertyId) (part : TokenPart) (s : Size) → IsTrue (takes p kind.Length) → IsLength true (declared_range_of p) part s → IsSizeFor p s
 length_size p part s t (sizes.with_unit text word z u n) =
     (t, subst (λ k. IsTrue (takes p k)) (sym (unit_of_length word z.unit u)) t, in_limits p text z.amount n)
 length_size p part s t (sizes.zero text z n is) = subst (IsSizeFor p) (sym is) (t, t, none_in_limits p)
@@ -86,9 +86,9 @@ percent_size property.Rotate s u t n = never t
 percent_size property.Translate s u t n = never t
 percent_size property.Visibility s u t n = never t
 percent_size property.ZIndex s u t n = never t
-percent_size p s u t n = (refl, subst (λ v. IsTrue (takes p (kind_of v))) (sym u) t, n)
+percent_size p s u t n = (refl, subst (λ v. IsTrue (takes p (kind_of_unit v))) (sym u) t, n)
 
-percent_declared : (p : PropertyId) (part : Piece) (s : Size) → IsTrue (takes p kind.Percent) → IsPercent true (declared_range_of p) part s → IsDeclaredFor p (declared_percent p s)
+percent_declared : (p : PropertyId) (part : TokenPart) (s : Size) → IsTrue (takes p kind.Percent) → IsPercent true (declared_range_of p) part s → IsDeclaredFor p (declared_percent p s)
 percent_declared p part s t (sizes.percent text z u n) = percent_size p z u t (in_limits p text z.amount n)
 
 normal_size : (p : PropertyId) → IsTrue (takes p kind.Normal) → IsSizeFor p zero_pixels
@@ -97,18 +97,18 @@ normal_size p t = never t
 
 -- ---- pairs
 
-length_in_all : (part : Piece) (s : Size) → IsLength true range.All part s → IsWithinLimit s.amount
+length_in_all : (part : TokenPart) (s : Size) → IsLength true range.All part s → IsWithinLimit s.amount
 length_in_all part s (sizes.with_unit text word z u n) = n.limit refl
 length_in_all part s (sizes.zero text z n is) = subst (λ (y : Size). IsWithinLimit y.amount) (sym is) (omega (arith, ints))
 
-percent_in_all : (part : Piece) (s : Size) → IsPercent true range.All part s → IsWithinLimit s.amount
+percent_in_all : (part : TokenPart) (s : Size) → IsPercent true range.All part s → IsWithinLimit s.amount
 percent_in_all part s (sizes.percent text z u n) = n.limit refl
 
 pair_in_range : (p : PropertyId) (n : Fix) → IsTrue (takes p kind.Pair) → IsInRange (declared_range_of p) n
 pair_in_range property.Translate n t = tt
 pair_in_range p n t = never t
 
-part_in_limits : (p : PropertyId) (part : Piece) (s : Size) → IsTrue (takes p kind.Pair) → IsPart true part s → IsDeclaredNumberFor p s.amount
+part_in_limits : (p : PropertyId) (part : TokenPart) (s : Size) → IsTrue (takes p kind.Pair) → IsPart true part s → IsDeclaredNumberFor p s.amount
 part_in_limits p part s t (spelling.length h) = record { limit = length_in_all part s h; in_range = pair_in_range p s.amount t }
 part_in_limits p part s t (spelling.percent h) = record { limit = percent_in_all part s h; in_range = pair_in_range p s.amount t }
 
@@ -201,7 +201,7 @@ hex_chosen : (text : List ℕ) (c : Rgba) (b : Bool) → list_all is_ascii_hexdi
 hex_chosen text c true all h = hex_digits_inside text c all h
 hex_chosen text c false all h = absurd (cc)
 
-color_inside : (parts : List Piece) (c : Rgba) → IsColor parts c → IsInside c
+color_inside : (parts : List TokenPart) (c : Rgba) → IsColor parts c → IsInside c
 unfolding color_named hex_color
 color_inside parts c (colors.named word d e) = named_inside word _ (look_up color_words word) d refl e
 color_inside parts c (colors.hexadecimal digits d e) = hex_chosen digits d (list_all is_ascii_hexdigit digits) refl e
@@ -211,7 +211,7 @@ color_inside parts c (colors.channels_and_alpha name r g b a d f x y z h) = reco
 
 -- ---- declared values
 
-value_declared : (p : PropertyId) (k : ValueKind) (parts : List Piece) (d : Declared) → IsTrue (takes p k) → IsSpelling true p k parts d → IsDeclaredFor p d
+value_declared : (p : PropertyId) (k : ValueKind) (parts : List TokenPart) (d : Declared) → IsTrue (takes p k) → IsSpelling true p k parts d → IsDeclaredFor p d
 value_declared p k parts d t (spelling.number text n h) = (t, in_limits p text n h)
 value_declared p k parts d t (spelling.length part s h) = length_size p part s t h
 value_declared p k parts d t (spelling.percent part s e h is) = subst (IsDeclaredFor p) (sym is) (percent_declared p part s t h)
@@ -233,10 +233,10 @@ keyword_declared p false cascade.Inherit d e h = absurd (cc)
 keyword_declared p true cascade.Unset d e h = let same : declared.Inherit ≡ d = cc in subst (IsDeclaredFor p) same e
 keyword_declared p false cascade.Unset d e h = let same : declared.Initial ≡ d = cc in subst (IsDeclaredFor p) same tt
 
-pub spelled_declared : (p : PropertyId) (parts : List Piece) (d : Declared) → IsSpelled true p parts d → IsDeclaredFor p d
+pub spelled_declared : (p : PropertyId) (parts : List TokenPart) (d : Declared) → IsSpelled true p parts d → IsDeclaredFor p d
 spelled_declared p parts d (spelling.keyword k is h) = keyword_declared p (is_inherited p) k d refl h
 spelled_declared p parts d (spelling.value k none t h) = value_declared p k parts d t h
 
-pub answer_declared : (p : PropertyId) (parts : List Piece) (r : Result Declared ValueFault) → IsAnswer p parts r → IfOk r (IsDeclaredFor p)
+pub answer_declared : (p : PropertyId) (parts : List TokenPart) (r : Result Declared ValueFault) → IsValueAnswer p parts r → IfOk r (IsDeclaredFor p)
 answer_declared p parts (Ok d) h = spelled_declared p parts d h
 answer_declared p parts (Err fault) h = tt

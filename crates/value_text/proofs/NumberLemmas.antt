@@ -19,7 +19,7 @@ use Rattle.value_types.specs.declared.range.ValueRange.{ValueRange}
 use Rattle.value_types.specs.declared.range.ValueRange.TheVariants as range
 use Rattle.value_text.specs.NumberReading.{begins_minus, far_in_range, integer_from, integer_in, number_in}
 use Rattle.value_text.specs.NumberReading as reading
-use Rattle.value_text.specs.Numbers.{IsNumber}
+use Rattle.value_text.specs.Numbers.{IsNumberText}
 use Rattle.value_text.proofs.Readings.{IsReading, nothing}
 
 -- ---- the sign of a number past the limit
@@ -77,17 +77,17 @@ far_in_range_told range.Nothing text v sign h = tt
 fix_of : ℤ → Fix
 fix_of v = record { 0 = v }
 
-one_number : (r : ValueRange) (text : List ℕ) (a b : Fix) → IsNumber false r text a → IsNumber false r text b → a ≡ b
+one_number : (r : ValueRange) (text : List ℕ) (a b : Fix) → IsNumberText false r text a → IsNumberText false r text b → a ≡ b
 unfolding fix_of
 one_number r text a b h k = ap fix_of (one_near 6 text a.0 b.0 h.near k.near)
 
 number_given : (r : ValueRange) (text : List ℕ) (v : ℤ) → StandsNear 6 text v → unsigned_abs v ≤ MAX_NUMBER → (b : Bool) → is_in_range r v ≡ b
-    → IsReading (λ held n. IsNumber held r text n) (if b then Ok (record { 0 = v }) else Err Unsupported)
+    → IsReading (λ held n. IsNumberText held r text n) (if b then Ok (record { 0 = v }) else Err Unsupported)
 unfolding fix_of
 number_given r text v near small true test = record {
   given = λ a h. ap (λ z. Ok (fix_of z)) (one_near 6 text v a.0 near h.near);
   found = λ a e. let same : fix_of v ≡ a = cc in
-      subst (λ n. IsNumber true r text n) same (record { near = near; in_range = in_range_told r v test; limit = λ held. small });
+      subst (λ n. IsNumberText true r text n) same (record { near = near; in_range = in_range_told r v test; limit = λ held. small });
   bound = λ e. absurd (cc);
   some = λ a h e. cc;
   wider = λ a h. record { near = h.near; in_range = h.in_range; limit = λ held. absurd (cc) };
@@ -101,7 +101,7 @@ number_given r text v near small false test = nothing _ (λ held a h.
     cc)
 
 number_far : (r : ValueRange) (text : List ℕ) (v : ℤ) → StandsNear 6 text v → MAX_NUMBER < unsigned_abs v → (b : Bool) → far_in_range r text ≡ b
-    → IsReading (λ held n. IsNumber held r text n) (if b then Err Bound else Err Unsupported)
+    → IsReading (λ held n. IsNumberText held r text n) (if b then Err Bound else Err Unsupported)
 number_far r text v near far true test = record {
   given = λ a h. let small = h.limit refl in let same = one_near 6 text v a.0 near h.near in let size = ap unsigned_abs same in absurd (omega arith);
   found = λ a e. absurd (cc);
@@ -119,12 +119,12 @@ number_far r text v near far false test = nothing _ (λ held a h.
     cc)
 
 number_at : (r : ValueRange) (text : List ℕ) (res : Result ℤ NumFault) → rounded_reading_of 6 MAX_NUMBER text ≡ res
-    → IsReading (λ held n. IsNumber held r text n) (reading.number_from r text res)
+    → IsReading (λ held n. IsNumberText held r text n) (reading.number_from r text res)
 number_at r text (Ok v) e = let told = near_told 6 MAX_NUMBER text v e in number_given r text v told.0 told.1 (is_in_range r v) refl
 number_at r text (Err TooLarge) e = let told = far_told 6 MAX_NUMBER text e in number_far r text told.0 told.1 told.2 (far_in_range r text) refl
 number_at r text (Err Syntax) e = nothing _ (λ held a h. none_told 6 MAX_NUMBER text e h.near.0 h.near.1)
 number_at r text (Err TooFine) e = absurd (never_fine 6 MAX_NUMBER text e)
 
-pub number_is : (r : ValueRange) (text : List ℕ) → IsReading (λ held n. IsNumber held r text n) (number_in r text)
+pub number_is : (r : ValueRange) (text : List ℕ) → IsReading (λ held n. IsNumberText held r text n) (number_in r text)
 unfolding number_in
 number_is r text = number_at r text (rounded_reading_of 6 MAX_NUMBER text) refl

@@ -3,7 +3,7 @@ use Rattle.std.proofs.Common.{◌≡◌, refl, ap, sym, subst, ◌∙◌, Bool, 
 use Rattle.std.specs.Prelude.{if◌then◌else◌}
 use Rattle.token_parts.specs.declared.fault.ValueFault.{ValueFault}
 use Rattle.token_parts.specs.declared.fault.ValueFault.TheVariants.{Unsupported, BoundItems, Bound, NoMemory}
-use Rattle.value_text.specs.Reading.{both, mapped, supported}
+use Rattle.value_text.specs.Reading.{both, reading_map, or_unsupported}
 
 -- the reading gives what is within its limits, tells what passes one, and finds all that is so
 pub record IsReading {A : Type 0} (R : Bool → A → Type 0) (r : Result A ValueFault) : Type 0 where
@@ -31,7 +31,7 @@ nothing R none = record {
 
 -- a value that has no number with a limit
 pub supported_is : {A : Type 0} (R : Bool → A → Type 0) (o : Option A)
-    → ((held : Bool) (a : A) → R held a → o ≡ Some a) → ((held : Bool) (a : A) → o ≡ Some a → R held a) → IsReading R (supported o)
+    → ((held : Bool) (a : A) → R held a → o ≡ Some a) → ((held : Bool) (a : A) → o ≡ Some a → R held a) → IsReading R (or_unsupported o)
 supported_is R None to from = nothing R (λ held a h. let e = to held a h in cc)
 supported_is R (Some x) to from = record {
   given = λ a h. let e = to true a h in cc;
@@ -47,7 +47,7 @@ supported_is R (Some x) to from = record {
 -- seen otherwise
 pub mapped_is : {A B : Type 0} (f : A → B) (R : Bool → A → Type 0) (S : Bool → B → Type 0) (r : Result A ValueFault) → IsReading R r
     → ((held : Bool) (a : A) → R held a → S held (f a)) → ((held : Bool) (b : B) → S held b → (a : A) × R held a × (f a ≡ b))
-    → IsReading S (mapped f r)
+    → IsReading S (reading_map f r)
 mapped_is f R S (Ok x) h to from = record {
   given = λ b s. let w = from true b s in let e = h.given w.0 w.1 in let d = w.2 in cc;
   found = λ b e. let x_is = to true x (h.found x refl) in let same : f x ≡ b = cc in subst (S true) same x_is;

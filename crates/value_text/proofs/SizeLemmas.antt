@@ -5,7 +5,7 @@ use Rattle.std.proofs.lemmas.Bool.Decides.{nat_tests}
 use Rattle.std.proofs.lemmas.Int.{ints}
 use Rattle.fix_num.specs.declared.units.Fix.{Fix}
 use Rattle.token_parts.specs.Keywords.{look_up}
-use Rattle.token_parts.specs.Parts.{Piece, Ident, Function, Hash, Number, Percent, Dimension, Comma, Close, Other}
+use Rattle.token_parts.specs.Parts.{TokenPart, Ident, Function, Hash, Number, Percent, Dimension, Comma, Close, Other}
 use Rattle.token_parts.specs.declared.fault.ValueFault.{ValueFault}
 use Rattle.token_parts.specs.declared.fault.ValueFault.TheVariants.{Unsupported}
 use Rattle.value_types.specs.declared.declared.Size.{Size}
@@ -13,7 +13,7 @@ use Rattle.value_types.specs.declared.declared.Unit.{«Unit»}
 use Rattle.value_types.specs.declared.declared.Unit.TheVariants as unit
 use Rattle.value_types.specs.declared.range.ValueRange.{ValueRange}
 use Rattle.value_text.specs.NumberReading.{number_in}
-use Rattle.value_text.specs.Numbers.{IsNumber}
+use Rattle.value_text.specs.Numbers.{IsNumberText}
 use Rattle.value_text.specs.Reading.{is_zero, length_in, percent_in, size_of, with_unit, zero_from}
 use Rattle.value_text.specs.Sizes.{IsLength, IsPercent, length_units, zero_pixels}
 use Rattle.value_text.specs.Sizes as sizes
@@ -23,12 +23,12 @@ use Rattle.value_text.proofs.Readings.{IsReading, mapped_is, nothing}
 -- ---- with a unit
 
 unit_from : (held : Bool) (r : ValueRange) (text word : List ℕ) (s : Size) → IsLength held r (Dimension text word) s
-    → (look_up length_units word ≡ Some s.unit) × IsNumber held r text s.amount
+    → (look_up length_units word ≡ Some s.unit) × IsNumberText held r text s.amount
 unit_from held r text word s (sizes.with_unit t w z d n) = (d, n)
 
 unit_given : (r : ValueRange) (text word : List ℕ) (o : Option «Unit») → look_up length_units word ≡ o
     → IsReading (λ held s. IsLength held r (Dimension text word) s) (with_unit r text o)
-unit_given r text word (Some u) e = mapped_is (size_of u) (λ held n. IsNumber held r text n) _ (number_in r text) (number_is r text)
+unit_given r text word (Some u) e = mapped_is (size_of u) (λ held n. IsNumberText held r text n) _ (number_in r text) (number_is r text)
     (λ held n h. sizes.with_unit text word (size_of u n) e h)
     (λ held s h. let was = unit_from held r text word s h in let same : s.unit ≡ u = cc in (s.amount, was.1, ap (λ v. size_of v s.amount) (sym same)))
 unit_given r text word None e = nothing _ (λ held s h. let was = (unit_from held r text word s h).0 in cc)
@@ -42,7 +42,7 @@ zero_is_zero (negsuc n) h = absurd (cc)
 fix_of : ℤ → Fix
 fix_of v = record { 0 = v }
 
-zero_held : (held : Bool) (r : ValueRange) (text : List ℕ) → IsNumber held r text (record { 0 = pos 0 }) → IsNumber true r text (record { 0 = pos 0 })
+zero_held : (held : Bool) (r : ValueRange) (text : List ℕ) → IsNumberText held r text (record { 0 = pos 0 }) → IsNumberText true r text (record { 0 = pos 0 })
 zero_held held r text h = record { near = h.near; in_range = h.in_range; limit = λ yes. omega (arith, ints) }
 
 zero_read : (held : Bool) (r : ValueRange) (text : List ℕ) (s : Size) → IsLength held r (Number text) s → (number_in r text ≡ Ok (record { 0 = pos 0 })) × (s ≡ zero_pixels)
@@ -55,7 +55,7 @@ zero_at r text n e true test = record {
   given = λ s h. ap Ok (sym (zero_read true r text s h).1);
   found = λ s d. let same : zero_pixels ≡ s = cc in
       let is : n ≡ record { 0 = pos 0 } = ap fix_of (zero_is_zero n.0 test) in
-      sizes.zero text s (subst (λ m. IsNumber true r text m) is ((number_is r text).found n e)) (sym same);
+      sizes.zero text s (subst (λ m. IsNumberText true r text m) is ((number_is r text).found n e)) (sym same);
   bound = λ d. absurd (cc);
   some = λ s h d. cc;
   wider = λ s h. let z = zero_read true r text s h in sizes.zero text s ((number_is r text).wider (record { 0 = pos 0 }) ((number_is r text).found (record { 0 = pos 0 }) z.0)) z.1;
@@ -75,7 +75,7 @@ zero_given r text (Err fault) e = nothing _ (λ held s h. let z = (zero_read hel
 
 -- ---- the parts
 
-pub length_is : (r : ValueRange) (part : Piece) → IsReading (λ held s. IsLength held r part s) (length_in r part)
+pub length_is : (r : ValueRange) (part : TokenPart) → IsReading (λ held s. IsLength held r part s) (length_in r part)
 length_is r (Dimension text word) = unit_given r text word (look_up length_units word) refl
 length_is r (Number text) = zero_given r text (number_in r text) refl
 length_is r (Ident w) = nothing _ (λ held s h. elim h [ ])
@@ -86,11 +86,11 @@ length_is r Comma = nothing _ (λ held s h. elim h [ ])
 length_is r Close = nothing _ (λ held s h. elim h [ ])
 length_is r Other = nothing _ (λ held s h. elim h [ ])
 
-percent_from : (held : Bool) (r : ValueRange) (text : List ℕ) (s : Size) → IsPercent held r (Percent text) s → (n : Fix) × IsNumber held r text n × (size_of unit.Percent n ≡ s)
+percent_from : (held : Bool) (r : ValueRange) (text : List ℕ) (s : Size) → IsPercent held r (Percent text) s → (n : Fix) × IsNumberText held r text n × (size_of unit.Percent n ≡ s)
 percent_from held r text s (sizes.percent t z u n) = (s.amount, n, ap (λ v. size_of v s.amount) (sym u))
 
-pub percent_is : (r : ValueRange) (part : Piece) → IsReading (λ held s. IsPercent held r part s) (percent_in r part)
-percent_is r (Percent text) = mapped_is (size_of unit.Percent) (λ held n. IsNumber held r text n) _ (number_in r text) (number_is r text)
+pub percent_is : (r : ValueRange) (part : TokenPart) → IsReading (λ held s. IsPercent held r part s) (percent_in r part)
+percent_is r (Percent text) = mapped_is (size_of unit.Percent) (λ held n. IsNumberText held r text n) _ (number_in r text) (number_is r text)
     (λ held n h. sizes.percent text (size_of unit.Percent n) refl h) (λ held s h. percent_from held r text s h)
 percent_is r (Ident w) = nothing _ (λ held s h. elim h [ ])
 percent_is r (Function w) = nothing _ (λ held s h. elim h [ ])

@@ -7,7 +7,7 @@ use Rattle.value_types.specs.declared.range.ValueRange.{ValueRange}
 use Rattle.value_types.specs.Ranges.{IsInRange, IsInteger, IsWithinLimit}
 
 -- the text spells the number nearest to n millionths, which is in the range, and within the limit where numbers are held to it
-pub record IsNumber (held : Bool) (range : ValueRange) (text : List ℕ) (n : Fix) : Type 0 where
+pub record IsNumberText (held : Bool) (range : ValueRange) (text : List ℕ) (n : Fix) : Type 0 where
   pub near : StandsNear 6 text n.0
   pub in_range : IsInRange range n
   pub limit : IsTrue held → IsWithinLimit n

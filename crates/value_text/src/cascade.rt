@@ -1,7 +1,7 @@
 //! The keywords of the cascade.
 ghost use Rattle.std.specs.Prelude.{◌≡◌, map};
 ghost use Rattle.token_parts.specs.Keywords.{look_up};
-ghost use Rattle.token_parts.specs.Parts.{seen};
+ghost use Rattle.token_parts.specs.Parts.{token_part};
 ghost use Rattle.value_text.specs.Spelling.{cascade_keyword, cascade_words, declared_by};
 
 use token_parts::{Part, look_up};
@@ -17,7 +17,7 @@ pub(crate) enum Keyword {
 
 /// The keyword of the cascade that the parts are.
 pub(crate) fn cascade_keyword(parts: &[Part]) -> Option<Keyword>
-    ensures { result ≡ cascade_keyword (map seen parts.now) }
+    ensures { result ≡ cascade_keyword (map token_part parts.now) }
 {
     match parts {
         [Part::Ident(word)] => keyword_named(word),

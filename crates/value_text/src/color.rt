@@ -3,16 +3,14 @@ ghost use Rattle.std.specs.Prelude.{if◌then◌else◌, ◌≡◌, ◌<◌, pos
 ghost use Rattle.std.specs.List.{list_all};
 ghost use Rattle.token_parts.specs.Keywords.{look_up};
 ghost use Rattle.std.specs.Char.{is_ascii_hexdigit};
-ghost use Rattle.token_parts.specs.Parts.{seen};
+ghost use Rattle.token_parts.specs.Parts.{token_part};
 ghost use Rattle.value_text.specs.Colors.{alpha_of, color_named, color_words, digit_of, double_of, hex_color, hex_digits, is_color_function, pair_of};
-ghost use Rattle.value_text.specs.ColorReading.{alpha_at, arguments_of, channel_at, color_of, comma_at};
+ghost use Rattle.value_text.specs.ColorReading.{alpha_at, arguments_of, channel_at, color_of};
 
 use crate::number::{channel, number};
 use fix_num::{Fix, rnd};
-use token_parts::{Part, is_keyword, look_up};
+use token_parts::{Part, after_comma, is_keyword, look_up};
 use value_types::ValueRange;
-
-const OPAQUE: Fix = Fix(1_000_000);
 
 /// A colour: channels from 0 to 255 and an alpha in millionths.
 #[derive(Clone, Copy)]
@@ -25,7 +23,7 @@ pub(crate) struct Rgba {
 
 /// The colour that the parts spell.
 pub(crate) fn color(parts: &[Part]) -> Option<Rgba>
-    ensures { result ≡ color_of (map seen parts.now) }
+    ensures { result ≡ color_of (map token_part parts.now) }
 {
     match parts {
         [Part::Ident(word)] => color_named(word),
@@ -36,7 +34,7 @@ pub(crate) fn color(parts: &[Part]) -> Option<Rgba>
 }
 
 fn function_color(name: &[u8], parts: &[Part]) -> Option<Rgba>
-    ensures { result ≡ (if is_color_function name.now then arguments_of (map seen parts.now) else None) }
+    ensures { result ≡ (if is_color_function name.now then arguments_of (map token_part parts.now) else None) }
 {
     if is_keyword(name, b"rgb") || is_keyword(name, b"rgba") {
         arguments(parts)
@@ -47,17 +45,17 @@ fn function_color(name: &[u8], parts: &[Part]) -> Option<Rgba>
 
 #[tactic(auto, unfolding(crate::specs::ColorReading::arguments_of))]
 fn arguments(parts: &[Part]) -> Option<Rgba>
-    ensures { result ≡ arguments_of (map seen parts.now) }
+    ensures { result ≡ arguments_of (map token_part parts.now) }
 {
     let (r, rest) = channel_at(parts)?;
-    let (g, rest) = channel_at(comma_at(rest)?)?;
-    let (b, rest) = channel_at(comma_at(rest)?)?;
+    let (g, rest) = channel_at(after_comma(rest)?)?;
+    let (b, rest) = channel_at(after_comma(rest)?)?;
     let a = alpha_at(rest)?;
     Some(Rgba { r, g, b, a })
 }
 
 fn channel_at<'a, 'b>(parts: &'b [Part<'a>]) -> Option<(u8, &'b [Part<'a>])>
-    ensures { option_map (λ c. (c.0, map seen c.1.now)) result ≡ channel_at (map seen parts.now) }
+    ensures { option_map (λ c. (c.0, map token_part c.1.now)) result ≡ channel_at (map token_part parts.now) }
 {
     match parts {
         [Part::Number(text), rest @ ..] => Some((channel(text)?, rest)),
@@ -65,20 +63,11 @@ fn channel_at<'a, 'b>(parts: &'b [Part<'a>]) -> Option<(u8, &'b [Part<'a>])>
     }
 }
 
-fn comma_at<'a, 'b>(parts: &'b [Part<'a>]) -> Option<&'b [Part<'a>]>
-    ensures { option_map (λ rest. map seen rest.now) result ≡ comma_at (map seen parts.now) }
-{
-    match parts {
-        [Part::Comma, rest @ ..] => Some(rest),
-        _ => None,
-    }
-}
-
 fn alpha_at(parts: &[Part]) -> Option<Fix>
-    ensures { result ≡ alpha_at (map seen parts.now) }
+    ensures { result ≡ alpha_at (map token_part parts.now) }
 {
     match parts {
-        [Part::Close] => Some(OPAQUE),
+        [Part::Close] => Some(Fix::ONE),
         [Part::Comma, Part::Number(text), Part::Close] => match number(
             ValueRange::ZeroToOne,
             text,
@@ -103,7 +92,12 @@ fn color_named(word: &[u8]) -> Option<Rgba>
         });
     }
     let (r, g, b) = channels_named(word)?;
-    Some(Rgba { r, g, b, a: OPAQUE })
+    Some(Rgba {
+        r,
+        g,
+        b,
+        a: Fix::ONE,
+    })
 }
 
 fn channels_named(word: &[u8]) -> Option<(u8, u8, u8)>
@@ -154,13 +148,13 @@ fn hex_digits(text: &[u8]) -> Option<Rgba>
     ensures { result ≡ hex_digits text.now }
 {
     match *text {
-        [r, g, b] => Some(short(r, g, b, OPAQUE)),
+        [r, g, b] => Some(short(r, g, b, Fix::ONE)),
         [r, g, b, a] => Some(short(r, g, b, hex_alpha(pair(a, a)))),
         [r, r2, g, g2, b, b2] => Some(Rgba {
             r: pair(r, r2),
             g: pair(g, g2),
             b: pair(b, b2),
-            a: OPAQUE,
+            a: Fix::ONE,
         }),
         [r, r2, g, g2, b, b2, a, a2] => Some(Rgba {
             r: pair(r, r2),
@@ -212,5 +206,5 @@ fn digit(c: u8) -> u8
 fn hex_alpha(h: u8) -> Fix
     ensures { result ≡ record { 0 = alpha_of h } }
 {
-    Fix(rnd(i128::from(h) * 1_000_000, 255) as i64)
+    Fix(rnd(i128::from(h) * i128::from(Fix::ONE.0), 255) as i64)
 }

@@ -1,14 +1,14 @@
 //! Values of one kind.
 ghost use Rattle.std.specs.Prelude.{if◌then◌else◌, ◌≡◌, ◌∷◌, map, option_map, pos, codes};
 ghost use Rattle.fix_num.specs.Rounding.{rounded_quotient};
-ghost use Rattle.token_parts.specs.Keywords.{names};
-ghost use Rattle.token_parts.specs.Parts.{seen};
+ghost use Rattle.token_parts.specs.Keywords.{is_keyword};
+ghost use Rattle.token_parts.specs.Parts.{token_part};
 ghost use Rattle.value_types.specs.Keywords.{display_named, visibility_named};
 ghost use Rattle.value_types.specs.Validity.{declared_range_of};
 ghost use Rattle.value_text.specs.ColorReading.{color_of};
 ghost use Rattle.value_text.specs.NumberReading.{integer_in, number_in};
-ghost use Rattle.value_text.specs.Reading.{angle_in, both, keyword_in, kind_in, length_in, lone, lone_number, lone_word, mapped, pair_in, percent_in, read_of, supported};
-ghost use Rattle.value_text.specs.Spelling.{colored, declared_percent};
+ghost use Rattle.value_text.specs.Reading.{angle_in, both, keyword_in, kind_in, length_in, lone, lone_number, lone_word, reading_map, pair_in, percent_in, read_of, or_unsupported};
+ghost use Rattle.value_text.specs.Spelling.{declared_color, declared_percent};
 
 use crate::color::color;
 use crate::number::{integer, number};
@@ -25,7 +25,7 @@ pub(crate) fn of_kind(
     kind: ValueKind,
     parts: &[Part],
 ) -> Result<Declared, ValueFault>
-    ensures { result ≡ kind_in p kind (map seen parts.now) }
+    ensures { result ≡ kind_in p kind (map token_part parts.now) }
 {
     let range = declared_range(p);
     match kind {
@@ -56,7 +56,7 @@ fn declared_range(p: PropertyId) -> ValueRange
 }
 
 fn lone_number_value(range: ValueRange, parts: &[Part]) -> Result<Declared, ValueFault>
-    ensures { result ≡ read_of (λ text. mapped Declared.Number (number_in range text)) (lone_number (map seen parts.now)) }
+    ensures { result ≡ read_of (λ text. reading_map Declared.Number (number_in range text)) (lone_number (map token_part parts.now)) }
 {
     match parts {
         [Part::Number(text)] => match number(range, text) {
@@ -68,7 +68,7 @@ fn lone_number_value(range: ValueRange, parts: &[Part]) -> Result<Declared, Valu
 }
 
 fn length_value(range: ValueRange, parts: &[Part]) -> Result<Declared, ValueFault>
-    ensures { result ≡ read_of (λ part. mapped Declared.Length (length_in range part)) (lone (map seen parts.now)) }
+    ensures { result ≡ read_of (λ part. reading_map Declared.Length (length_in range part)) (lone (map token_part parts.now)) }
 {
     match parts {
         [part] => match length(range, part) {
@@ -80,7 +80,7 @@ fn length_value(range: ValueRange, parts: &[Part]) -> Result<Declared, ValueFaul
 }
 
 fn percent_value(p: PropertyId, range: ValueRange, parts: &[Part]) -> Result<Declared, ValueFault>
-    ensures { result ≡ read_of (λ part. mapped (declared_percent p) (percent_in range part)) (lone (map seen parts.now)) }
+    ensures { result ≡ read_of (λ part. reading_map (declared_percent p) (percent_in range part)) (lone (map token_part parts.now)) }
 {
     match parts {
         [part] => match percent(range, part) {
@@ -108,7 +108,7 @@ fn hundredth(n: Fix) -> Fix
 }
 
 fn keyword(parts: &[Part], word: &[u8], value: Declared) -> Result<Declared, ValueFault>
-    ensures { result ≡ read_of (keyword_in word.now value) (lone_word (map seen parts.now)) }
+    ensures { result ≡ read_of (keyword_in word.now value) (lone_word (map token_part parts.now)) }
 {
     match parts {
         [Part::Ident(name)] => {
@@ -123,7 +123,7 @@ fn keyword(parts: &[Part], word: &[u8], value: Declared) -> Result<Declared, Val
 }
 
 fn integer_value(parts: &[Part]) -> Result<Declared, ValueFault>
-    ensures { result ≡ read_of (λ text. mapped Declared.Int (integer_in text)) (lone_number (map seen parts.now)) }
+    ensures { result ≡ read_of (λ text. reading_map Declared.Int (integer_in text)) (lone_number (map token_part parts.now)) }
 {
     match parts {
         [Part::Number(text)] => match integer(text) {
@@ -135,7 +135,7 @@ fn integer_value(parts: &[Part]) -> Result<Declared, ValueFault>
 }
 
 fn color_value(parts: &[Part]) -> Result<Declared, ValueFault>
-    ensures { result ≡ supported (option_map colored (color_of (map seen parts.now))) }
+    ensures { result ≡ or_unsupported (option_map declared_color (color_of (map token_part parts.now))) }
 {
     match color(parts) {
         Some(c) => Ok(Declared::Color {
@@ -149,7 +149,7 @@ fn color_value(parts: &[Part]) -> Result<Declared, ValueFault>
 }
 
 fn angle_value(range: ValueRange, parts: &[Part]) -> Result<Declared, ValueFault>
-    ensures { result ≡ read_of (angle_in range) (lone (map seen parts.now)) }
+    ensures { result ≡ read_of (angle_in range) (lone (map token_part parts.now)) }
 {
     match parts {
         [Part::Dimension { number, unit }] => angle(range, number, unit),
@@ -158,7 +158,7 @@ fn angle_value(range: ValueRange, parts: &[Part]) -> Result<Declared, ValueFault
 }
 
 fn angle(range: ValueRange, text: &[u8], unit: &[u8]) -> Result<Declared, ValueFault>
-    ensures { result ≡ (if names unit.now (codes "deg") then mapped Declared.Angle (number_in range text.now) else Err ValueFault.Unsupported) }
+    ensures { result ≡ (if is_keyword unit.now (codes "deg") then reading_map Declared.Angle (number_in range text.now) else Err ValueFault.Unsupported) }
 {
     if !is_keyword(unit, b"deg") {
         return Err(ValueFault::Unsupported);
@@ -170,7 +170,7 @@ fn angle(range: ValueRange, text: &[u8], unit: &[u8]) -> Result<Declared, ValueF
 }
 
 fn pair_value(parts: &[Part]) -> Result<Declared, ValueFault>
-    ensures { result ≡ pair_in (map seen parts.now) }
+    ensures { result ≡ pair_in (map token_part parts.now) }
 {
     match parts {
         [part] => match length_or_percent(part) {
@@ -199,7 +199,7 @@ fn both(x: Result<Size, ValueFault>, y: Result<Size, ValueFault>) -> Result<Decl
 }
 
 fn visibility_value(parts: &[Part]) -> Result<Declared, ValueFault>
-    ensures { result ≡ read_of (λ word. supported (option_map Declared.Visible (visibility_named word))) (lone_word (map seen parts.now)) }
+    ensures { result ≡ read_of (λ word. or_unsupported (option_map Declared.Visible (visibility_named word))) (lone_word (map token_part parts.now)) }
 {
     match parts {
         [Part::Ident(word)] => match Visibility::by_keyword(word) {
@@ -211,7 +211,7 @@ fn visibility_value(parts: &[Part]) -> Result<Declared, ValueFault>
 }
 
 fn display_value(parts: &[Part]) -> Result<Declared, ValueFault>
-    ensures { result ≡ read_of (λ word. supported (option_map Declared.Display (display_named word))) (lone_word (map seen parts.now)) }
+    ensures { result ≡ read_of (λ word. or_unsupported (option_map Declared.Display (display_named word))) (lone_word (map token_part parts.now)) }
 {
     match parts {
         [Part::Ident(word)] => match Display::by_keyword(word) {

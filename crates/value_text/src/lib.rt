@@ -1,4 +1,6 @@
-//! The values of properties as they are written: `read_value` reads `.5em` for a width as half an em.
+//! Floor: values. Knows no element and no time: the values of properties as they are written.
+//!
+//! `read_value(alloc, PropertyId::Width, ".5em", tokens)` is half an em, or why the text is no width.
 #![tactic(auto)]
 
 mod cascade;
@@ -8,8 +10,6 @@ mod laws;
 mod number;
 mod reader;
 mod size;
-#[cfg(test)]
-mod tests;
 
 pub use laws::{one_value, reading_is_exact, spelled_is_declared};
 pub use reader::read_value;

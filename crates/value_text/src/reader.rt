@@ -1,11 +1,11 @@
 //! The reader of a property's values.
 ghost use Rattle.std.specs.Prelude.{◌≡◌, map, option_map, All, IfOk, find};
 ghost use Rattle.css_token.specs.TokenLists.{LiesWithin};
-ghost use Rattle.token_parts.specs.Parts.{pieces_of, seen};
+ghost use Rattle.token_parts.specs.Parts.{token_parts_of, token_part};
 ghost use Rattle.value_types.specs.Table.{takes};
 ghost use Rattle.value_types.specs.Validity.{IsDeclaredFor};
-ghost use Rattle.value_text.specs.Spelling.{IsAnswer};
-ghost use Rattle.value_text.specs.Reading.{Gives, kind_at, kinds_at, reading_of, value_in};
+ghost use Rattle.value_text.specs.Spelling.{IsValueAnswer};
+ghost use Rattle.value_text.specs.Reading.{GivesReading, kind_at, kinds_at, declared_reading, value_in};
 
 use crate::cascade::{cascade_keyword, declared_by};
 use crate::kind::of_kind;
@@ -23,9 +23,9 @@ pub fn read_value(
     tokens: &[Token],
 ) -> Result<Declared, ValueFault>
     requires { All (LiesWithin text.now) tokens.now }
-    ensures answer { IsAnswer p (pieces_of text.now tokens.now) result }
+    ensures answer { IsValueAnswer p (token_parts_of text.now tokens.now) result }
     ensures declared { IfOk result (IsDeclaredFor p) }
-    ensures reading { Gives result (reading_of p (pieces_of text.now tokens.now)) }
+    ensures reading { GivesReading result (declared_reading p (token_parts_of text.now tokens.now)) }
 {
     let Ok(parts) = parts(alloc, text.as_bytes(), tokens) else {
         return Err(ValueFault::NoMemory);
@@ -33,9 +33,9 @@ pub fn read_value(
     read_parts(p, parts.as_slice())
 }
 
-#[tactic(auto, unfolding(crate::specs::Reading::reading_of))]
+#[tactic(auto, unfolding(crate::specs::Reading::declared_reading))]
 fn read_parts(p: PropertyId, parts: &[Part]) -> Result<Declared, ValueFault>
-    ensures { result ≡ reading_of p (map seen parts.now) }
+    ensures { result ≡ declared_reading p (map token_part parts.now) }
 {
     match cascade_keyword(parts) {
         Some(keyword) => declared_by(is_inherited(p), keyword).ok_or(ValueFault::Unsupported),
@@ -45,7 +45,7 @@ fn read_parts(p: PropertyId, parts: &[Part]) -> Result<Declared, ValueFault>
 
 #[tactic(auto, unfolding(crate::specs::Reading::value_in))]
 fn value(p: PropertyId, parts: &[Part]) -> Result<Declared, ValueFault>
-    ensures { result ≡ value_in p (map seen parts.now) }
+    ensures { result ≡ value_in p (map token_part parts.now) }
 {
     match kind_at(p, parts) {
         Some(kind) => of_kind(p, kind, parts),
@@ -55,7 +55,7 @@ fn value(p: PropertyId, parts: &[Part]) -> Result<Declared, ValueFault>
 
 /// The kind of value that the property's row names and that begins as these parts do.
 fn kind_at(p: PropertyId, parts: &[Part]) -> Option<ValueKind>
-    ensures { result ≡ kind_at p (map seen parts.now) }
+    ensures { result ≡ kind_at p (map token_part parts.now) }
 {
     match parts {
         [first, ..] => kind_in(p, first),
@@ -64,7 +64,7 @@ fn kind_at(p: PropertyId, parts: &[Part]) -> Option<ValueKind>
 }
 
 fn kind_in(p: PropertyId, part: &Part) -> Option<ValueKind>
-    ensures { result ≡ find (takes p) (kinds_at (seen part.now)) }
+    ensures { result ≡ find (takes p) (kinds_at (token_part part.now)) }
 {
     match part {
         Part::Ident(_) => first_taken(

@@ -1,9 +1,9 @@
 //! Lengths and percents.
 ghost use Rattle.std.specs.Prelude.{◌≡◌};
 ghost use Rattle.token_parts.specs.Keywords.{look_up};
-ghost use Rattle.token_parts.specs.Parts.{seen};
+ghost use Rattle.token_parts.specs.Parts.{token_part};
 ghost use Rattle.value_text.specs.NumberReading.{number_in};
-ghost use Rattle.value_text.specs.Reading.{length_in, mapped, part_in, percent_in, size_of, zero_from};
+ghost use Rattle.value_text.specs.Reading.{length_in, reading_map, part_in, percent_in, size_of, zero_from};
 ghost use Rattle.value_text.specs.Sizes.{length_units, zero_pixels};
 
 use crate::number::number;
@@ -22,7 +22,7 @@ pub(crate) fn zero_pixels() -> Size
 
 /// The length that the part is.
 pub(crate) fn length(range: ValueRange, part: &Part) -> Result<Size, ValueFault>
-    ensures { result ≡ length_in range (seen part.now) }
+    ensures { result ≡ length_in range (token_part part.now) }
 {
     match part {
         Part::Dimension { number, unit } => match unit_named(unit) {
@@ -36,7 +36,7 @@ pub(crate) fn length(range: ValueRange, part: &Part) -> Result<Size, ValueFault>
 
 /// The percent that the part is.
 pub(crate) fn percent(range: ValueRange, part: &Part) -> Result<Size, ValueFault>
-    ensures { result ≡ percent_in range (seen part.now) }
+    ensures { result ≡ percent_in range (token_part part.now) }
 {
     match part {
         Part::Percent(text) => size(range, text, Unit::Percent),
@@ -46,7 +46,7 @@ pub(crate) fn percent(range: ValueRange, part: &Part) -> Result<Size, ValueFault
 
 /// The part of a translation: a length or a percent.
 pub(crate) fn length_or_percent(part: &Part) -> Result<Size, ValueFault>
-    ensures { result ≡ part_in (seen part.now) }
+    ensures { result ≡ part_in (token_part part.now) }
 {
     match part {
         Part::Percent(_) => percent(ValueRange::All, part),
@@ -64,7 +64,7 @@ fn unit_named(word: &[u8]) -> Option<Unit>
 }
 
 fn size(range: ValueRange, text: &[u8], unit: Unit) -> Result<Size, ValueFault>
-    ensures { result ≡ mapped (size_of unit) (number_in range text.now) }
+    ensures { result ≡ reading_map (size_of unit) (number_in range text.now) }
 {
     match number(range, text) {
         Ok(amount) => Ok(Size { amount, unit }),

@@ -1,4 +1,4 @@
--- The shorthands (CSS Cascade 5, section 4; CSS Backgrounds 3; CSS Box 3; CSS Logical 1, section 4.3).
+-- The shorthands (CSS Cascade 5, "Shorthand Properties"; CSS Backgrounds 3; CSS Box 3; CSS Logical 1).
 use Rattle.std.specs.Prelude.{List, [], ◌∷◌}
 use Rattle.value_types.specs.declared.property.PropertyId.{PropertyId}
 use Rattle.value_types.specs.declared.property.PropertyId.TheVariants.{BackgroundColor, Bottom, Left, MarginBottom, MarginLeft, MarginRight, MarginTop, PaddingBottom, PaddingLeft, PaddingRight, PaddingTop, Right, Top}

@@ -68,15 +68,15 @@ pub record IsDeclaredNumberFor (p : PropertyId) (n : Fix) : Type 0 where
   pub in_range : IsInRange (declared_range_of p) n
 
 -- a unit makes a length, or a percent
-abbrev pub kind_of : «Unit» → ValueKind
-kind_of Px = kind.Length
-kind_of Em = kind.Length
-kind_of Rem = kind.Length
-kind_of Percent = kind.Percent
+abbrev pub kind_of_unit : «Unit» → ValueKind
+kind_of_unit Px = kind.Length
+kind_of_unit Em = kind.Length
+kind_of_unit Rem = kind.Length
+kind_of_unit Percent = kind.Percent
 
 -- a declared length or percent of the property; a percent of opacity is declared as a number
 abbrev pub IsSizeFor : PropertyId → Size → Type 0
-IsSizeFor p s = IsTrue (takes p kind.Length) × IsTrue (takes p (kind_of s.unit)) × IsDeclaredNumberFor p s.amount
+IsSizeFor p s = IsTrue (takes p kind.Length) × IsTrue (takes p (kind_of_unit s.unit)) × IsDeclaredNumberFor p s.amount
 
 -- the property may be declared so
 abbrev pub IsDeclaredFor : PropertyId → Declared → Type 0

@@ -13,7 +13,7 @@ pub enum Declared {
     Length(Size),
     Auto,
     Int(i32),
-    /// Channels of sRGB, 0 to 255, and the alpha, 0 to a million (CSS Color 4, section 5).
+    /// Channels of sRGB, 0 to 255, and the alpha, 0 to a million (CSS Color 4, "sRGB Colors").
     Color { r: u8, g: u8, b: u8, a: Fix },
     Angle(Fix),
     /// The two parts of `translate`.
@@ -24,7 +24,8 @@ pub enum Declared {
     Display(Display),
 }
 
-/// A length or a percent as it is written: millionths of a unit (CSS Values 3, sections 4.3 and 5).
+/// A length or a percent as it is written: millionths of a unit (CSS Values 3, "Percentages: the
+/// <percentage> type", "Distance Units: the <length> type").
 #[derive(Clone, Copy, Debug, PartialEq, Eq)]
 pub struct Size {
     pub amount: Fix,

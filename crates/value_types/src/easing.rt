@@ -24,7 +24,7 @@ pub enum Jump {
 }
 
 impl Easing {
-    /// The keyword `ease` (CSS Easing 1, section 2.2).
+    /// The keyword `ease` (CSS Easing 1, "Cubic Bézier easing functions").
     pub fn ease() -> Easing
         ensures { result ≡ ease }
     {

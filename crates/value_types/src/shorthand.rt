@@ -5,7 +5,7 @@ ghost use Rattle.value_types.specs.Shorthands.{longhands_of};
 
 use crate::property::PropertyId;
 
-/// A shorthand property (CSS Cascade 5, section 4). `All` is `all`.
+/// A shorthand property (CSS Cascade 5, "Shorthand Properties"). `All` is `all`.
 #[derive(Clone, Copy, Debug, PartialEq, Eq)]
 pub enum Shorthand {
     All,
@@ -15,7 +15,7 @@ pub enum Shorthand {
     Padding,
 }
 
-/// An item of `transition-property` (CSS Transitions 1, section 2.1): `all`, a property, a shorthand other
+/// An item of `transition-property` (CSS Transitions 1, "The transition-property Property"): `all`, a property, a shorthand other
 /// than `all`, or an identifier that names none of these.
 #[derive(Clone, Copy, Debug, PartialEq, Eq)]
 pub enum PropertyItem {

@@ -1,4 +1,4 @@
-//! The items of the timing lists of animations (CSS Animations 1, section 4).
+//! The items of the timing lists of animations (CSS Animations 1, "Declaring Animations").
 
 use fix_num::Fix;
 

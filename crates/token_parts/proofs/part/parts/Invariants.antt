@@ -1,6 +1,6 @@
 use Rattle.std.proofs.Common.{◌≡◌, ◌++◌, map, drop}
-use Rattle.token_parts.specs.Parts.{pieces_of, seen}
+use Rattle.token_parts.specs.Parts.{token_parts_of, token_part}
 use Rattle.token_parts.proofs.part.parts.Given as goal
 
 abbrev pub invariant-loop-token : goal.invariant-loop-token
-invariant-loop-token l = map seen l.parts.items ++ pieces_of l.text (drop l.token-index l.tokens) ≡ pieces_of l.text l.tokens
+invariant-loop-token l = map token_part l.parts.items ++ token_parts_of l.text (drop l.token-index l.tokens) ≡ token_parts_of l.text l.tokens
