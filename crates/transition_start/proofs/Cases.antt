@@ -1,15 +1,14 @@
 -- Decisions in single cases.
-use Rattle.std.proofs.Common.{◌≡◌, ◌<◌, refl, ap, sym, ◌∙◌, arith, inl, inr}
+use Rattle.std.proofs.Common.{◌≡◌, ◌<◌, refl, ap, arith, inl, inr}
 use Rattle.std.specs.Prelude.{◌⊎◌, Option, None, Some, IsNone}
-use Rattle.style_data.specs.declared.decision.Decision.{Decision}
 use Rattle.transition_list.specs.declared.matched.MatchedItem.{MatchedItem}
 use Rattle.style_data.specs.declared.transition.Completed.{Completed}
 use Rattle.style_data.specs.declared.transition.Transition.{Transition}
 use Rattle.transition_start.specs.declared.change.PropertyChange.{PropertyChange}
-use Rattle.transition_start.specs.Change.{Change, change_at}
+use Rattle.transition_start.specs.Change.{change_at}
 use Rattle.transition_start.specs.Functions.{decision_of, rule_of}
 use Rattle.transition_start.specs.Results.{decision_by, decision_with}
-use Rattle.transition_start.specs.Rules.{Applies, CancelsAtOnce, CancelsThere, DropsCompleted, Keeps, Replaces, Reverses, Rule, Starts, Unmatched, Wants, rank}
+use Rattle.transition_start.specs.Rules.{CancelsAtOnce, CancelsThere, DropsCompleted, Keeps, Replaces, Reverses, Rule, Starts, Unmatched, Wants, rank}
 use Rattle.transition_start.proofs.Rules.{applies, only_one}
 
 -- a completed transition to the after-change value: no rule but the last applies

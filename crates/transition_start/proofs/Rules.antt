@@ -1,6 +1,6 @@
 -- Which rule applies to a change.
 use Rattle.std.proofs.Common.{◌≡◌, ℕ, ◌<◌, refl, suc, arith, ap, sym, ◌∙◌, inl, inr, subst}
-use Rattle.std.specs.Prelude.{ℤ, pos, ◌≤ℤ◌, ◌<ℤ◌, ◌≢◌, int_lt, int_le, Bool, true, false, not, ◌&&◌, ◌==◌, if◌then◌else◌, cond, Option, Some, None, IsNone, IsSomeAnd, IfSome, IsFalse, IsTrue, is_none, ◌||◌, ◌⊎◌, ◌↔◌, ⊤}
+use Rattle.std.specs.Prelude.{ℤ, pos, ◌≤ℤ◌, ◌<ℤ◌, ◌≢◌, int_lt, int_le, Bool, true, false, not, ◌==◌, if◌then◌else◌, Option, Some, None, IsNone, IsSomeAnd, IfSome, IsFalse, IsTrue, is_none, ◌↔◌}
 use Rattle.std.specs.Option.{option_map_or}
 use Rattle.std.specs.Bool.{Decides as DecidesTest}
 use Rattle.std.proofs.lemmas.Bool.{cases_lt, false≢true}

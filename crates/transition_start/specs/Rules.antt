@@ -1,5 +1,5 @@
 -- Which rule applies to a change (CSS Transitions 1, section 3 "Starting of transitions").
-use Rattle.std.specs.Prelude.{◌≡◌, ◌≢◌, ◌⊎◌, ℕ, ◌<◌, pos, ◌≤ℤ◌, ◌<ℤ◌, Option, IsNone, IsSomeAnd, IfSome, IsTrue, IsFalse, ⊤}
+use Rattle.std.specs.Prelude.{◌≡◌, ◌≢◌, ◌⊎◌, ℕ, ◌<◌, pos, ◌≤ℤ◌, ◌<ℤ◌, IsNone, IsSomeAnd, IfSome, IsTrue, IsFalse, ⊤}
 use Rattle.interpolation.specs.Interpolation.{is_interpolable}
 use Rattle.style_data.specs.declared.transition.Transition.{Transition}
 use Rattle.value_types.specs.declared.value.Value.{Value}
