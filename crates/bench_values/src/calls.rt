@@ -1,16 +1,16 @@
 //! The loops.
 ghost use Rattle.std.specs.Prelude.{◌≤◌, ◌^◌, pos, ◌≤ℤ◌};
-ghost use Rattle.style_data.specs.Kept.{IsKeptFor};
 ghost use Rattle.style_data.specs.Transitions.{IsMoment};
 ghost use Rattle.value_types.specs.Timing.{IsEasing};
 ghost use Rattle.value_types.specs.declared.property.PropertyId.{PropertyId};
 
+use crate::entries::fade;
 use css_token::tokens;
 use easing::output;
 use fix_num::{Bill, Fix, Micros};
 use list_text::read_list;
 use std::alloc::Global;
-use style_data::{Match, MatchedItem, Phase, Running, Transition};
+use transition_list::{Match, MatchedItem};
 use transition_start::decide;
 use value_types::{Easing, ListName, PropertyId, Value};
 
@@ -47,25 +47,6 @@ pub(crate) fn outputs(count: u64) -> u64 {
         sum ^= q.unsigned_abs();
     }
     sum
-}
-
-/// What runs while an opacity goes from 0 to 1 in a second.
-fn fade() -> Running
-    ensures { IsKeptFor PropertyId.Opacity result }
-{
-    Running::new(Transition {
-        from: Value::Number(Fix(0)),
-        to: Value::Number(Fix(1_000_000)),
-        adjusted: Value::Number(Fix(0)),
-        created: Micros(0),
-        start: Micros(0),
-        end: Micros(1_000_000),
-        easing: Easing::Linear,
-        factor: Bill(1_000_000_000),
-        generation: 1,
-        position: 0,
-        seen: Phase::Active,
-    })
 }
 
 /// Decides at so many times on a change back to 0; answers how often the transition was reversed.

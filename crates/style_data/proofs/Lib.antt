@@ -1,4 +1,8 @@
+pub mod ByIndex
+pub mod Changes
+pub mod DeclarationLemmas
+pub mod EveryProperty
 pub mod Lookups
+pub mod StyleLemmas
 pub mod Tables
 pub mod TransitionLemmas
-pub mod WinnerLemmas

@@ -1,13 +1,14 @@
 -- Looking up what is kept for a property.
 use Rattle.std.proofs.Common.{◌≡◌, ℕ, zero, suc, ◌<◌, refl, sym, ◌∙◌, ap, arith, rules, inl, inr, subst}
-use Rattle.std.specs.Prelude.{◌≢◌, ◌⊎◌, ◌↔◌, Bool, true, false, nat_eq, List, [], ◌∷◌, All, AllPairs, length, slice_index_or, Option, None, Some, IfSome, IsNone, option_map, find, cond}
+use Rattle.std.specs.Prelude.{◌⊎◌, ◌↔◌, Bool, true, false, nat_eq, List, [], ◌∷◌, All, AllPairs, Option, None, Some, IfSome, IsNone, option_map, find, cond}
 use Rattle.std.specs.List.{Contains}
 use Rattle.value_types.specs.Properties.{number_of}
 use Rattle.value_types.specs.declared.property.PropertyId.{PropertyId}
 use Rattle.style_data.specs.declared.transition.Completed.{Completed}
 use Rattle.style_data.specs.declared.transition.Transition.{Transition}
 use Rattle.style_data.specs.Kept.{IsCompletedFor, IsKeptFor}
-use Rattle.style_data.specs.TransitionSets.{AreTransitions, IsBefore, TransitionSet, completed_of, kept_for, running_of}
+use Rattle.style_data.specs.TransitionSets.{AreTransitions, TransitionSet, completed_of, running_of}
+use Rattle.style_data.specs.ByProperty.{IsBefore, kept_for}
 use Rattle.style_data.proofs.Tables.{same_property}
 
 same_number : (m n : ℕ) → nat_eq m n ≡ true → m ≡ n
@@ -66,7 +67,7 @@ one_of_both t p are = go (running_of t p) refl (completed_of t p) refl where
   go (Some r) er (Some c) ec = absurd (both t p r c are (found_kept t.running p r er) (found_kept t.completed p c ec))
 
 -- what a look-up gives has what each has
-found_has : {A : Type 0} (P : PropertyId → A → Type 0) (xs : List (PropertyId × A)) (p : PropertyId) (o : Option A) → kept_for p xs ≡ o → All (λ k. P k.0 k.1) xs → IfSome o (P p)
+pub found_has : {A : Type 0} (P : PropertyId → A → Type 0) (xs : List (PropertyId × A)) (p : PropertyId) (o : Option A) → kept_for p xs ≡ o → All (λ k. P k.0 k.1) xs → IfSome o (P p)
 found_has P xs p None e all = tt
 found_has {A} P xs p (Some a) e all =
     let (k, l, is) = found_kept xs p a e in

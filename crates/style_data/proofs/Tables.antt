@@ -1,6 +1,6 @@
 -- Properties and timing lists by their places.
 use Rattle.std.proofs.Common.{◌≡◌, ℕ, ◌<◌, refl, sym, ◌∙◌, ap, arith}
-use Rattle.std.specs.Prelude.{◌==◌, if◌then◌else◌, List, length, Some, slice_get}
+use Rattle.std.specs.Prelude.{◌==◌, if◌then◌else◌, Some, slice_get}
 use Rattle.std.proofs.lemmas.Option.{slice_get_within}
 use Rattle.value_types.specs.Properties.{number_of, all_properties}
 use Rattle.value_types.specs.declared.property.PropertyId.{PropertyId}

@@ -1,15 +1,16 @@
 -- Computed styles, and what of them is inherited (CSS Cascade 5, sections 4.4 and 7.2).
-use Rattle.std.specs.Prelude.{◌≡◌, ◌^◌, pos, ◌≤ℤ◌, List, map, length, slice_index_or}
+use Rattle.std.specs.Prelude.{◌≡◌, List, [], ◌∷◌, map, set, length, slice_index_or, All}
 use Rattle.fix_num.specs.declared.units.Fix.{Fix}
 use Rattle.value_types.specs.Properties.{all_properties, number_of}
+use Rattle.value_types.specs.Ranges.{IsSize}
 use Rattle.value_types.specs.Table.{fix, initial_value}
 use Rattle.value_types.specs.TimingLists.{AnimationValues, TransitionValues, initial_animations, initial_transitions}
 use Rattle.value_types.specs.Validity.{IsValid}
 use Rattle.value_types.specs.declared.property.PropertyId.{PropertyId}
-use Rattle.value_types.specs.declared.property.PropertyId.TheVariants.{Color, LetterSpacing, Visibility}
+use Rattle.value_types.specs.declared.property.PropertyId.TheVariants.{Color, FontSize, LetterSpacing, Visibility}
 use Rattle.value_types.specs.declared.value.Value.{Value}
-use Rattle.value_types.specs.declared.value.Value.TheVariants.{Auto}
-use Rattle.style_data.specs.declared.inherited_values.InheritedValues.{InheritedValues}
+use Rattle.value_types.specs.declared.value.Value.TheVariants.{Auto, Length}
+use Rattle.style_data.specs.declared.inherited.InheritedValues.{InheritedValues}
 
 -- the values by property number, and the lists that time transitions and animations
 pub record ComputedStyle : Type 0 where
@@ -17,8 +18,8 @@ pub record ComputedStyle : Type 0 where
   pub transitions : TransitionValues
   pub animations : AnimationValues
 
-abbrev pub computed_style : List Value → TransitionValues → AnimationValues → ComputedStyle
-computed_style values transitions animations = record { values = values; transitions = transitions; animations = animations }
+abbrev pub style_of_values : List Value → TransitionValues → AnimationValues → ComputedStyle
+style_of_values values transitions animations = record { values = values; transitions = transitions; animations = animations }
 
 -- the value of a property, of values by number
 abbrev pub value_at : List Value → PropertyId → Value
@@ -38,14 +39,33 @@ abbrev pub initial_values : List Value
 initial_values = map initial_value all_properties
 
 abbrev pub initial_style : ComputedStyle
-initial_style = computed_style initial_values initial_transitions initial_animations
+initial_style = style_of_values initial_values initial_transitions initial_animations
+
+-- ---- values that are given on top of a style, as transitions and animations give them
+
+-- values, with those that are given to single properties in their places; the first that is given to a property counts
+abbrev pub values_with : List Value → List (PropertyId × Value) → List Value
+values_with values [] = values
+values_with values (g ∷ given) = set (values_with values given) (number_of g.0) g.1
+
+-- the style with these values in place of its own
+abbrev pub style_with : ComputedStyle → List (PropertyId × Value) → ComputedStyle
+style_with s given = record s { values = values_with s.values given }
+
+-- each is a value of its property
+abbrev pub AreGiven : List (PropertyId × Value) → Type 0
+AreGiven given = All (λ g. IsValid g.0 g.1) given
 
 -- ---- inherited values
 
--- a size in millionths of a pixel
-pub record IsSize (s : Fix) : Type 0 where
-  pub low : pos 0 ≤ℤ s.0
-  pub high : s.0 ≤ℤ pos (10 ^ 12)
+-- the pixels of a length
+abbrev pub pixels_of_length : Value → Fix
+pixels_of_length (Length px pct) = px
+pixels_of_length _ = fix 0
+
+-- the font size
+abbrev pub font_size_of : ComputedStyle → Fix
+font_size_of s = pixels_of_length (value_of s FontSize)
 
 -- inherited values, each a value of its property
 pub record AreInherited (i : InheritedValues) : Type 0 where
@@ -55,12 +75,16 @@ pub record AreInherited (i : InheritedValues) : Type 0 where
   pub visibility : IsValid Visibility i.visibility
   pub root_size : IsSize i.root_size
 
--- what the root inherits: the initial values, with a root font size of 16px
-abbrev pub initial_inherited : InheritedValues
-initial_inherited = record {
-  color = initial_value Color;
-  font_size = fix 16000000;
-  letter_spacing = initial_value LetterSpacing;
-  visibility = initial_value Visibility;
-  root_size = fix 16000000;
+-- what the elements below one of this style inherit, where the root has this font size
+abbrev pub inherited_of : ComputedStyle → Fix → InheritedValues
+inherited_of s root_size = record {
+  color = value_of s Color;
+  font_size = font_size_of s;
+  letter_spacing = value_of s LetterSpacing;
+  visibility = value_of s Visibility;
+  root_size = root_size;
 }
+
+-- what the root inherits: the initial values, with the initial font size for the root's
+abbrev pub initial_inherited : InheritedValues
+initial_inherited = inherited_of initial_style (font_size_of initial_style)

@@ -1,12 +1,11 @@
 //! What a style change event leaves of a property's transitions.
 
 use crate::gone::Gone;
-use crate::running::Running;
-use crate::transition::Completed;
+use crate::transition::{Completed, Running};
 
 /// What a style change event leaves of one property's transitions (CSS Transitions 1, section 3): the running
 /// one, the completed one, and the one that it cancelled.
-#[derive(Debug, Drop)]
+#[derive(Drop)]
 pub struct Decision {
     pub running: Option<Running>,
     pub completed: Option<Completed>,

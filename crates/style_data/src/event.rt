@@ -4,9 +4,10 @@ ghost use Rattle.std.specs.Prelude.{◌≡◌};
 
 use crate::gone::Subject;
 use fix_num::Micros;
+use std::cmp::Ordering;
 
 /// The kind of an event (CSS Transitions 1, section 6; CSS Animations 1, section 5).
-#[derive(Clone, Copy, Debug, PartialEq, Eq)]
+#[derive(Clone, Copy, PartialEq, Eq)]
 pub enum EventKind {
     Run,
     Start,
@@ -28,7 +29,7 @@ impl EventKind {
 
 /// Where an event stands among those of a frame: by its scheduled time, and then in composite order (Web
 /// Animations 1, "sorting animation events"), field by field.
-#[derive(Clone, Copy, Debug, PartialEq, Eq)]
+#[derive(Clone, Copy, PartialEq, Eq, PartialOrd, Ord)]
 pub struct Key {
     /// The scheduled event time in microseconds.
     pub time: Micros,
@@ -41,8 +42,19 @@ pub struct Key {
     pub kind: u32,
 }
 
+impl Key {
+    ghost use Rattle.style_data.specs.Events.{key_order};
+
+    /// How the key compares with another: by the first field that differs.
+    pub fn compare(self, other: Key) -> Ordering
+        ensures { result ≡ key_order self other }
+    {
+        self.cmp(&other)
+    }
+}
+
 /// An event of an element's transition or animation.
-#[derive(Debug, Drop)]
+#[derive(Drop)]
 pub struct Event {
     /// The element's number.
     pub element: u32,

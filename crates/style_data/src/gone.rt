@@ -5,11 +5,10 @@ ghost use Rattle.std.specs.Prelude.{◌≡◌, IfOk};
 use crate::transition::Phase;
 use fix_num::Micros;
 use std::alloc::{AllocError, Global};
-use std::default::MadeWith;
 use value_types::{Name, PropertyId};
 
 /// What an event or a cancelled item is of: the property of a transition, or an animation's name.
-#[derive(Debug, Drop)]
+#[derive(Drop)]
 pub enum Subject {
     Property(PropertyId),
     Animation(Name),
@@ -28,7 +27,7 @@ impl Subject {
 }
 
 /// A cancelled transition or animation that waits for its cancel event. Times are microseconds.
-#[derive(Debug, Drop)]
+#[derive(Drop)]
 pub struct Gone {
     pub subject: Subject,
     /// The place at which an animation started; 0 of a transition.
@@ -58,20 +57,5 @@ impl Gone {
             position: self.position,
             seen: self.seen,
         })
-    }
-}
-
-/// Fills unused places of short lists.
-impl MadeWith<Global> for Gone {
-    fn made_with(_alloc: Global) -> Gone {
-        Gone {
-            subject: Subject::Property(PropertyId::BackgroundColor),
-            place: 0,
-            cancelled: Micros(0),
-            elapsed: Micros(0),
-            generation: 0,
-            position: 0,
-            seen: Phase::Idle,
-        }
     }
 }

@@ -1,22 +1,32 @@
-//! What an element hands down, within its bounds.
+//! What an element hands down.
 
 ghost use Rattle.std.specs.Prelude.{◌≡◌};
 ghost use Rattle.style_data.specs.Styles.{AreInherited, initial_inherited};
 
-use crate::inherited_values::InheritedValues;
 use fix_num::Fix;
 use std::marker::Model;
-use value_types::{PropertyId, initial_value};
+use value_types::{PropertyId, Value, initial_value};
+
+/// The computed values that the elements below inherit, and the root's font size. Sizes are millionths of a
+/// pixel.
+#[derive(Clone, Copy, PartialEq, Eq)]
+pub struct InheritedValues {
+    pub color: Value,
+    pub font_size: Fix,
+    pub letter_spacing: Value,
+    pub visibility: Value,
+    pub root_size: Fix,
+}
 
 /// Inherited values (CSS Cascade 5, section 7.2), each valid for its property, with sizes of 0 to 10^12
 /// millionths. Contracts see them as their record.
-#[derive(Clone, Copy, Debug, PartialEq, Eq)]
+#[derive(Clone, Copy, PartialEq, Eq)]
 pub struct Inherited {
     values: InheritedValues,
 }
 
 impl Model for Inherited {
-    ghost use Rattle.style_data.specs.declared.inherited_values.InheritedValues.{InheritedValues};
+    ghost use Rattle.style_data.specs.declared.inherited.InheritedValues.{InheritedValues};
 
     ghost Value = { InheritedValues };
 
@@ -63,7 +73,7 @@ impl Inherited {
 }
 
 /// What the update of an element hands to those below it: the inherited values of its three styles.
-#[derive(Clone, Copy, Debug, PartialEq, Eq)]
+#[derive(Clone, Copy, PartialEq, Eq)]
 pub struct Down {
     /// Those of the before-change style; none where it wasn't rendered at the style change event before.
     pub before: Option<Inherited>,

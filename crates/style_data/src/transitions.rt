@@ -1,15 +1,16 @@
 //! The transitions of an element.
 
-ghost use Rattle.std.specs.Prelude.{◌≡◌, ◌⊎◌, IsNone, IfOk, IfSome, None, OnErr, OnOk, Some};
-ghost use Rattle.style_data.specs.TransitionSets.{AreTransitions, ComesLast, completed_of, kept_for, kept_with, no_transitions, running_of};
+ghost use Rattle.std.specs.Prelude.{◌≡◌, ◌<◌, ◌⊎◌, ◌↔◌, IsNone, IsTrue, IfOk, IfSome, None, OnErr, OnOk, Some, length};
+ghost use Rattle.style_data.specs.ByProperty.{kept_for};
+ghost use Rattle.style_data.specs.TransitionSets.{AreTransitions, ComesLast, completed_of, kept_with, no_transitions, running_of, seen_at, with_seen};
 ghost use Rattle.style_data.specs.Kept.{IsCompletedFor, IsKeptFor};
 
-use crate::running::Running;
-use crate::transition::Completed;
+use crate::same::have_same;
+use crate::transition::{Completed, Phase, Running};
 use smallvec::SmallVec;
 use std::alloc::{AllocError, Global};
 use std::marker::Model;
-use value_types::PropertyId;
+use value_types::{PropertyId, Same};
 
 /// The running and the completed transitions of an element (CSS Transitions 1, section 3), both ascending by
 /// property number. Each is kept for its property, and no property has both.
@@ -40,7 +41,7 @@ impl Transitions {
         }
     }
 
-    /// Puts what is left of a property's transitions behind those of the properties before it. Where memory
+    /// Puts what is left of a property's transitions after those of the properties before it. Where memory
     /// runs out they stay as they were.
     pub fn keep(
         &mut self,
@@ -84,16 +85,33 @@ impl Transitions {
         Ok(())
     }
 
+    /// Keeps the phase in which the running transition at place `i`, from 0, was last seen.
+    pub fn see(&mut self, i: usize, seen: Phase)
+        requires { i < length self.old.running }
+        ensures { self.new ≡ with_seen self.old i seen }
+    {
+        see_at(&mut self.running, i, seen);
+    }
+
+    /// Whether none runs and none has completed.
+    pub fn is_empty(&self) -> bool
+        ensures { IsTrue result ↔ (self.now ≡ no_transitions) }
+    {
+        self.running.is_empty() && self.completed.is_empty()
+    }
+
     /// The running transitions, by property.
     pub fn running(&self) -> &[(PropertyId, Running)]
-        ensures { result.now ≡ self.now.running }
+        ensures value { result.now ≡ self.now.running }
+        ensures kept { AreTransitions self.now }
     {
         self.running.as_slice()
     }
 
     /// The completed transitions, by property.
     pub fn completed(&self) -> &[(PropertyId, Completed)]
-        ensures { result.now ≡ self.now.completed }
+        ensures value { result.now ≡ self.now.completed }
+        ensures kept { AreTransitions self.now }
     {
         self.completed.as_slice()
     }
@@ -122,6 +140,22 @@ impl Transitions {
             running: SmallVec::from_slice(alloc, self.running.as_slice())?,
             completed: SmallVec::from_slice(alloc, self.completed.as_slice())?,
         })
+    }
+}
+
+impl Same for Transitions {
+    fn is_same(&self, other: &Transitions) -> bool {
+        have_same(self.running.as_slice(), other.running.as_slice())
+            && have_same(self.completed.as_slice(), other.completed.as_slice())
+    }
+}
+
+fn see_at(running: &mut SmallVec<(PropertyId, Running), 2>, i: usize, seen: Phase)
+    requires { i < length running.old.items }
+    ensures { running.new.items ≡ seen_at running.old.items i seen }
+{
+    if let Some(item) = running.get_mut(i) {
+        item.1 = item.1.with_seen(seen);
     }
 }
 

@@ -2,7 +2,7 @@
 use Rattle.std.proofs.Common.{◌≡◌, ℕ, ◌+◌, refl, ap, ◌∙◌, List, [], ◌∷◌, Bool, true, false}
 use Rattle.std.specs.Prelude.{if◌then◌else◌, Option, Some, None, IsSome, option_and_then}
 use Rattle.std.specs.Option.{option_map_or}
-use Rattle.transition_start.specs.Decision.{decision_of}
+use Rattle.transition_start.specs.Functions.{decision_of}
 use Rattle.transcript_cli.specs.declared.refusal.Refusal.{Refusal}
 use Rattle.transcript_cli.specs.declared.world.Entry.{Entry}
 use Rattle.transcript_cli.specs.declared.world.World.{World}

@@ -11,7 +11,9 @@ use Rattle.value_types.specs.declared.value.Value.{Value}
 use Rattle.style_data.specs.declared.transition.Transition.{Transition}
 use Rattle.style_data.specs.declared.transition.Phase.{Phase}
 use Rattle.style_data.specs.declared.transition.Phase.TheVariants.{Idle, Before, Active, After}
-use Rattle.transition_start.specs.Decision.{Rule, Unmatched, Starts, DropsCompleted, CancelsThere, CancelsAtOnce, Reverses, Replaces, Keeps, Wants, outcome, rule_of, decision_of, started}
+use Rattle.transition_start.specs.Functions.{decision_of, rule_of}
+use Rattle.transition_start.specs.Results.{decision_by, new_transition}
+use Rattle.transition_start.specs.Rules.{Rule, Unmatched, Starts, DropsCompleted, CancelsThere, CancelsAtOnce, Reverses, Replaces, Keeps, Wants}
 use Rattle.transition_start.specs.Phase.{phase_of}
 use Rattle.transition_start.proofs.Rules.{applies}
 use Rattle.transcript_cli.specs.declared.event.EventKind.{EventKind}
@@ -138,10 +140,10 @@ not_elsewhere None to P arrives h = h
 not_elsewhere (Some r) to P arrives h = h.0 arrives
 
 by_rule : (w : World) → IfSome w.entry.running (λ r. r.to ≡ w.style.opacity) → (rule : Rule) → Wants (change_of w) rule
-    → Follows w.style.opacity w.frames w.entry.running (outcome (change_of w) rule).running
+    → Follows w.style.opacity w.frames w.entry.running (decision_by (change_of w) rule).running
 by_rule w arrives Unmatched h = inr (inl refl)
 by_rule w arrives Starts h =
-    inr (inr (started (change_of w).event (match_of w.style) (change_of w).event.before, refl, record { arrives = refl; generation = refl; unseen = refl; ordered = has_time w.time.0 w.style.duration.0 h.1.1.1.1 }))
+    inr (inr (new_transition (change_of w).event (match_of w.style) (change_of w).event.before, refl, record { arrives = refl; generation = refl; unseen = refl; ordered = has_time w.time.0 w.style.duration.0 h.1.1.1.1 }))
 by_rule w arrives DropsCompleted h = inr (inl refl)
 by_rule w arrives CancelsThere h = inr (inl refl)
 by_rule w arrives CancelsAtOnce h = inr (inl refl)

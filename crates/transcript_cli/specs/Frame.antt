@@ -1,13 +1,14 @@
 -- Frames: a tick, its events, and a style change event (CSS Transitions Level 1, section 3).
 use Rattle.std.specs.Prelude.{◌+◌, ℤ, pos, true, List, if◌then◌else◌, Option, Some, None}
 use Rattle.std.specs.Option.{option_map_or}
-use Rattle.style_data.specs.declared.matched_item.MatchedItem.{MatchedItem}
+use Rattle.transition_list.specs.declared.matched.MatchedItem.{MatchedItem}
 use Rattle.value_types.specs.declared.easing.Easing.TheVariants.{Linear}
 use Rattle.value_types.specs.declared.property.PropertyId.TheVariants.{Opacity}
 use Rattle.value_types.specs.declared.value.Value.{Value}
 use Rattle.style_data.specs.declared.transition.Transition.{Transition}
 use Rattle.style_data.specs.declared.decision.Decision.{Decision}
-use Rattle.transition_start.specs.Decision.{Change, changed, decision_of, property_change}
+use Rattle.transition_start.specs.Change.{Change, change_at, property_change}
+use Rattle.transition_start.specs.Functions.{decision_of}
 use Rattle.transition_start.specs.Sampling.{sample_of}
 use Rattle.transcript_cli.specs.declared.declared.Declared.{Declared}
 use Rattle.transcript_cli.specs.declared.world.Entry.{Entry}
@@ -27,7 +28,7 @@ match_of declared = record { duration = declared.duration; delay = record { 0 = 
 abbrev pub change_of : World → Change
 change_of w =
     let before = opacity_at w.entry.declared w.entry.running w.time.0 in
-    changed (property_change Opacity before w.style.opacity w.time.0 (w.frames + 1) 0) w.entry.running w.entry.completed (Some (match_of w.style))
+    change_at (property_change Opacity before w.style.opacity w.time.0 (w.frames + 1) 0) w.entry.running w.entry.completed (Some (match_of w.style))
 
 -- the entry that it leaves
 abbrev pub restyled : World → Option Transition → Decision → Entry

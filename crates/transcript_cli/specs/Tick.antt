@@ -1,11 +1,14 @@
 -- Ticks: the phase of each transition at a time is compared with the phase last seen, and gives events (Web Animations
 -- Level 1, section 4.4.5 "update animations and send events"; CSS Transitions Level 1, section 6).
 use Rattle.std.specs.Prelude.{ℕ, ℤ, pos, ◌-ℤ◌, int_le, List, [], ◌∷◌, map, if◌then◌else◌, Option, Some, None}
-use Rattle.std.specs.Int.{int_min, int_max}
+use Rattle.std.specs.Int.{int_max}
+use Rattle.style_data.specs.Events.{kind_number}
+use Rattle.style_data.specs.declared.event.EventKind.TheVariants as kind
 use Rattle.style_data.specs.declared.transition.Transition.{Transition}
 use Rattle.style_data.specs.declared.transition.Phase.{Phase}
 use Rattle.style_data.specs.declared.transition.Phase.TheVariants.{Idle, Before, Active, After}
 use Rattle.transition_start.specs.Phase.{phase_of}
+use Rattle.transition_start.specs.Results.{elapsed_at}
 use Rattle.transcript_cli.specs.declared.event.EventKind.{EventKind}
 use Rattle.transcript_cli.specs.declared.event.EventKind.TheVariants.{Run, Start, End}
 use Rattle.transcript_cli.specs.declared.world.Entry.{Entry}
@@ -33,13 +36,10 @@ kinds_between Active Before = []
 kinds_between Active Active = []
 kinds_between After p = []
 
--- the part of the active duration that had passed when the transition was created
-abbrev pub elapsed_at_creation : Transition → ℤ
-elapsed_at_creation r = int_min (int_max (r.created.0 -ℤ r.start.0) (pos 0)) (r.end.0 -ℤ r.start.0)
-
+-- the elapsed time of an event: at run and start that of the moment at which the transition was created, at end its duration
 abbrev pub elapsed_of : Transition → EventKind → ℤ
-elapsed_of r Run = elapsed_at_creation r
-elapsed_of r Start = elapsed_at_creation r
+elapsed_of r Run = elapsed_at r r.created.0
+elapsed_of r Start = elapsed_at r r.created.0
 elapsed_of r End = r.end.0 -ℤ r.start.0
 
 abbrev pub scheduled_of : Transition → EventKind → ℤ
@@ -71,6 +71,6 @@ ticked e t = after_tick e t e.running
 
 -- the place of a kind in the order of a transition's events
 abbrev pub rank_of : EventKind → ℕ
-rank_of Run = 0
-rank_of Start = 1
-rank_of End = 3
+rank_of Run = kind_number kind.Run
+rank_of Start = kind_number kind.Start
+rank_of End = kind_number kind.End

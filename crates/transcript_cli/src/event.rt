@@ -1,15 +1,16 @@
 //! The events of a running transition.
-ghost use Rattle.std.specs.Prelude.{◌≡◌, ◌++◌, ◌-ℤ◌, pos, codes, OnOk};
+ghost use Rattle.std.specs.Prelude.{◌≡◌, ◌++◌, ◌-ℤ◌, codes, OnOk};
 ghost use Rattle.fix_num.specs.Print.{decimal_text};
-ghost use Rattle.std.specs.Int.{int_max, int_min};
 ghost use Rattle.style_data.specs.Transitions.{IsTransition};
-ghost use Rattle.transcript_cli.specs.Tick.{elapsed_at_creation, elapsed_of, event_of, kinds_between};
+ghost use Rattle.transition_start.specs.Results.{elapsed_at};
+ghost use Rattle.transcript_cli.specs.Tick.{elapsed_of, event_of, kinds_between};
 ghost use Rattle.transcript_cli.specs.Transcript.{event_line, event_name, kind_text};
 
 use fix_num::print_fix;
 use itoa::Buffer;
 use std::alloc::AllocError;
 use style_data::{Phase, Running, Transition};
+use transition_start::elapsed_at;
 
 /// The kind of a transition event (CSS Transitions Level 1, section 6).
 #[derive(Clone, Copy, Debug, PartialEq, Eq)]
@@ -38,12 +39,17 @@ pub(crate) fn kinds_between(seen: Phase, now: Phase) -> &'static [EventKind]
 fn elapsed(r: Running, kind: EventKind) -> i64
     ensures { result ≡ elapsed_of r kind }
 {
-    let r = r.get();
     match kind {
-        EventKind::Run => elapsed_at_creation(r),
-        EventKind::Start => elapsed_at_creation(r),
-        EventKind::End => active_duration(r),
+        EventKind::Run | EventKind::Start => elapsed_at_creation(r),
+        EventKind::End => active_duration(r.get()),
     }
+}
+
+/// How long the transition had been active when it was created.
+fn elapsed_at_creation(r: Running) -> i64
+    ensures { result ≡ elapsed_at r r.created.0 }
+{
+    elapsed_at(&r, r.get().created).0
 }
 
 /// How long the transition lasts behind its delay.
@@ -52,21 +58,6 @@ fn active_duration(r: Transition) -> i64
     ensures { result ≡ r.end.0 -ℤ r.start.0 }
 {
     r.end.0 - r.start.0
-}
-
-/// The part of the active duration that had passed when the transition was created.
-fn elapsed_at_creation(r: Transition) -> i64
-    requires { IsTransition r }
-    ensures { result ≡ elapsed_at_creation r }
-{
-    capped(r.created.0 - r.start.0, active_duration(r))
-}
-
-/// The time, at least 0 and at most the duration.
-fn capped(time: i64, duration: i64) -> i64
-    ensures { result ≡ int_min (int_max time (pos 0)) duration }
-{
-    time.max(0).min(duration)
 }
 
 fn kind_text(kind: EventKind) -> &'static [u8]

@@ -14,7 +14,8 @@ use crate::event::{EventKind, kinds_between, push_event};
 use crate::world::{Entry, World};
 use fix_num::Micros;
 use std::alloc::AllocError;
-use style_data::{Completed, Match, MatchedItem, Running, Transition};
+use style_data::{Completed, Running, Transition};
+use transition_list::{Match, MatchedItem};
 use transition_start::{decide, phase_at, value_at};
 use value_types::{Easing, PropertyId, Value};
 

@@ -6,7 +6,7 @@ use style_data::{Completed, Running};
 use value_types::Value;
 
 /// What is kept of an element from one style change event to the next.
-#[derive(Clone, Copy, Debug)]
+#[derive(Clone, Copy)]
 pub(crate) struct Entry {
     /// Whether a frame has styled the element.
     pub styled: bool,

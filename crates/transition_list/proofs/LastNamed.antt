@@ -1,9 +1,9 @@
 -- The index of the last item that names a property.
 use Rattle.std.proofs.Common.{◌≡◌, ℕ, zero, suc, ◌+◌, ◌<◌, refl, sym, ◌∙◌, ap, arith, inl, inr, subst}
-use Rattle.std.specs.Prelude.{◌⊎◌, ◌↔◌, Bool, true, false, List, [], ◌∷◌, ◌++◌, All, get_or, length, slice_get, take, if◌then◌else◌, Option, None, Some, IfSome, IsSomeAnd, IsTrue, option_map}
+use Rattle.std.specs.Prelude.{◌↔◌, Bool, true, false, List, [], ◌∷◌, ◌++◌, All, get_or, length, slice_get, take, if◌then◌else◌, Option, None, Some, IfSome, IsSomeAnd, IsTrue, option_map}
 use Rattle.std.proofs.lemmas.Bool.{cases_lt, false≢true}
 use Rattle.std.proofs.lemmas.List.{length-take-le, take_more}
-use Rattle.style_data.specs.declared.matched_item.MatchedItem.{MatchedItem}
+use Rattle.transition_list.specs.declared.matched.MatchedItem.{MatchedItem}
 use Rattle.value_types.specs.TimingLists.{TransitionValues}
 use Rattle.value_types.specs.declared.property.PropertyId.{PropertyId}
 use Rattle.value_types.specs.declared.shorthand.PropertyItem.{PropertyItem}

@@ -1,2 +1,1 @@
 pub mod LastNamed
-pub mod TwoDurations

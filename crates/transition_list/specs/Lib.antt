@@ -1,1 +1,2 @@
+pub mod MatchedItems
 pub mod Matching

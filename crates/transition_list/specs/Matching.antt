@@ -1,7 +1,7 @@
 -- Matching of transition-property values (CSS Transitions 1, section 3; the repeating of lists: section 2.1).
-use Rattle.std.specs.Prelude.{◌≡◌, ℕ, ◌+◌, ◌<◌, ◌%◌, nat_eq, Bool, true, false, List, [], ◌∷◌, All, length, slice_get, slice_index_or, if◌then◌else◌, Option, None, Some, IfSome, IsSomeAnd, IsTrue, option_map}
+use Rattle.std.specs.Prelude.{◌≡◌, ℕ, ◌+◌, ◌<◌, ◌%◌, nat_eq, Bool, true, false, List, [], ◌∷◌, All, length, slice_get, slice_index_or, Option, None, Some, IfSome, IsSomeAnd, IsTrue, option_map}
 use Rattle.std.specs.List.{list_any}
-use Rattle.style_data.specs.declared.matched_item.MatchedItem.{MatchedItem}
+use Rattle.transition_list.specs.declared.matched.MatchedItem.{MatchedItem}
 use Rattle.value_types.specs.Properties.{number_of}
 use Rattle.value_types.specs.Shorthands.{longhands_of}
 use Rattle.value_types.specs.Timing.{ease}

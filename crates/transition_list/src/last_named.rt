@@ -1,12 +1,12 @@
 //! Matching items.
 
-ghost use Rattle.std.specs.Prelude.{◌≡◌, Some, if◌then◌else◌};
+ghost use Rattle.std.specs.Prelude.{◌≡◌, Some, if◌then◌else◌, option_copied, unwrap_or};
 ghost use Rattle.value_types.specs.Timing.{IsDelay, IsDuration, IsEasing, ease};
-ghost use Rattle.value_types.specs.TimingLists.{IsListOf, no_time};
+ghost use Rattle.value_types.specs.TimingLists.{IsListOf, initial_transitions, no_time};
 ghost use Rattle.transition_list.specs.Matching.{Matches, is_among, last_named, match_at, match_of, names, repeated};
 
+use crate::matched::{Match, MatchedItem};
 use fix_num::Micros;
-use style_data::{Match, MatchedItem};
 use value_types::{Easing, PropertyId, PropertyItem, TransitionLists, longhands};
 
 /// The match of a property: what the last item of `transition-property` that names it gives, each shorter
@@ -17,6 +17,28 @@ pub fn matching(lists: &TransitionLists, p: PropertyId) -> Option<Match>
     ensures value { result ≡ match_of lists.now p }
 {
     found(lists, p)
+}
+
+/// The match of a property by lists of which none may be given: each is initial then.
+#[tactic(auto, unfolding(crate::specs::Matching::last_named_from))]
+pub fn matching_or_initial(lists: Option<&TransitionLists>, p: PropertyId) -> Option<Match>
+    ensures { result ≡ match_of (unwrap_or (option_copied lists.entry) initial_transitions) p }
+{
+    match lists {
+        Some(lists) => matching(lists, p),
+        None => Some(initial_match()),
+    }
+}
+
+/// What the initial lists give each property.
+fn initial_match() -> Match
+    ensures { result ≡ match_at initial_transitions 0 }
+{
+    Match::new(MatchedItem {
+        duration: Micros(0),
+        delay: Micros(0),
+        easing: Easing::ease(),
+    })
 }
 
 fn found(lists: &TransitionLists, p: PropertyId) -> Option<Match>

@@ -1,6 +1,6 @@
 //! What holds of matches by the definitions alone.
 ghost use Rattle.std.specs.Prelude.{◌≡◌, ◌↔◌, ◌++◌, ◌∷◌, [], List, length, Option, Some, IsTrue};
-ghost use Rattle.style_data.specs.declared.matched_item.MatchedItem.{MatchedItem};
+ghost use Rattle.transition_list.specs.declared.matched.MatchedItem.{MatchedItem};
 ghost use Rattle.value_types.specs.TimingLists.{TransitionValues};
 ghost use Rattle.value_types.specs.declared.property.PropertyId.{PropertyId};
 ghost use Rattle.value_types.specs.declared.shorthand.PropertyItem.{PropertyItem};

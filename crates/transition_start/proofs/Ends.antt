@@ -18,12 +18,12 @@ output_after : (r : Transition) (t : ℤ) → r.end.0 ≤ℤ t → output_at r t
 unfolding output_at
 output_after r t h = rw (le_true r.end.0 t h) refl
 
-output_before : (r : Transition) (t : ℤ) → t ≤ℤ r.start.0 → r.start.0 <ℤ r.end.0 → output_at r t ≡ pos 0
+output_before : (r : Transition) (t : ℤ) → t ≤ℤ r.start.0 → t <ℤ r.end.0 → output_at r t ≡ pos 0
 unfolding output_at
-output_before r t h k = rw (le_false r.end.0 t (omega (arith, ints)), le_true t r.start.0 h) refl
+output_before r t h k = rw (le_false r.end.0 t k, le_true t r.start.0 h) refl
 
 pub at_end : (p : PropertyId) (r : Transition) (t : ℤ) → r.end.0 ≤ℤ t → sample_of p r t ≡ r.to
 at_end p r t h = ap (value_between p r.from r.to) (output_after r t h) ∙ to_at_1 p r.from r.to
 
-pub at_start : (p : PropertyId) (r : Transition) (t : ℤ) → t ≤ℤ r.start.0 → r.start.0 <ℤ r.end.0 → sample_of p r t ≡ r.from
+pub at_start : (p : PropertyId) (r : Transition) (t : ℤ) → t ≤ℤ r.start.0 → t <ℤ r.end.0 → sample_of p r t ≡ r.from
 at_start p r t h k = ap (value_between p r.from r.to) (output_before r t h k) ∙ from_at_0 p r.from r.to

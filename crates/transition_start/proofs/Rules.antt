@@ -1,6 +1,6 @@
 -- Which rule applies to a change.
 use Rattle.std.proofs.Common.{◌≡◌, ℕ, ◌<◌, refl, suc, arith, ap, sym, ◌∙◌, inl, inr, subst}
-use Rattle.std.specs.Prelude.{ℤ, pos, ◌≤ℤ◌, ◌<ℤ◌, ◌≢◌, int_lt, int_le, Bool, true, false, not, ◌&&◌, ◌==◌, if◌then◌else◌, cond, Option, Some, None, IsNone, IsSomeAnd, IfSome, IsFalse, IsTrue, is_none, ◌||◌, ◌⊎◌, ◌↔◌, ⊤}
+use Rattle.std.specs.Prelude.{ℤ, pos, ◌≤ℤ◌, ◌<ℤ◌, ◌≢◌, int_lt, int_le, Bool, true, false, not, ◌==◌, if◌then◌else◌, Option, Some, None, IsNone, IsSomeAnd, IfSome, IsFalse, IsTrue, is_none, ◌↔◌}
 use Rattle.std.specs.Option.{option_map_or}
 use Rattle.std.specs.Bool.{Decides as DecidesTest}
 use Rattle.std.proofs.lemmas.Bool.{cases_lt, false≢true}
@@ -14,7 +14,10 @@ use Rattle.style_data.specs.declared.transition.Completed.{Completed}
 use Rattle.style_data.specs.declared.transition.Transition.{Transition}
 use Rattle.value_types.specs.declared.value.Value.{Value}
 use Rattle.transition_start.specs.Sampling.{sample_of}
-use Rattle.transition_start.specs.Decision.{Change, Rule, Unmatched, Starts, DropsCompleted, CancelsThere, CancelsAtOnce, Reverses, Replaces, Keeps, Wants, Applies, Decides, rank, outcome, rule_of, decision_of, combined_duration, wanted, runs_elsewhere, completed_elsewhere, has_time, HasTime, NotCompletedTo, RunsElsewhere}
+use Rattle.transition_start.specs.Change.{Change, combined_duration}
+use Rattle.transition_start.specs.Functions.{completed_elsewhere, decision_of, has_time, meets, rule_of, runs_elsewhere}
+use Rattle.transition_start.specs.Results.{Decides, decision_by}
+use Rattle.transition_start.specs.Rules.{Applies, CancelsAtOnce, CancelsThere, DropsCompleted, HasTime, Keeps, NotCompletedTo, Replaces, Reverses, Rule, RunsElsewhere, Starts, Unmatched, Wants, rank}
 
 -- the rule of a rank
 rule_at : ℕ → Rule
@@ -81,41 +84,41 @@ not_itself false = (λ _. refl, λ _. refl)
 current : Change → Transition → Value
 current x r = sample_of x.event.property r x.event.time.0
 
-wanted_tells : (x : Change) (rule : Rule) → DecidesTest (wanted x rule) (Wants x rule)
+meets_tells : (x : Change) (rule : Rule) → DecidesTest (meets x rule) (Wants x rule)
 unfolding current
-wanted_tells x Unmatched = none_tells x.matched
-wanted_tells x Starts = Decides-and _ _ (none_tells x.running) (Decides-and _ _ (Decides-not _ (same_tells x.event.before x.event.after))
+meets_tells x Unmatched = none_tells x.matched
+meets_tells x Starts = Decides-and _ _ (none_tells x.running) (Decides-and _ _ (Decides-not _ (same_tells x.event.before x.event.after))
     (Decides-and _ _ (itself (is_interpolable x.event.property x.event.before x.event.after)) (Decides-and _ _ (any_tells x) (time_tells x))))
-wanted_tells x DropsCompleted = Decides-and _ _ (none_tells x.running) (some_tells x.completed _ _ (λ c. Decides-not _ (same_tells c.to x.event.after)))
-wanted_tells x CancelsThere = runs_tells x _ _ (λ r. Decides-or _ _ (same_tells (current x r) x.event.after) (not_itself (is_interpolable x.event.property (current x r) x.event.after)))
-wanted_tells x CancelsAtOnce = runs_tells x _ _ (λ r. some_tells x.matched _ _ (λ m. le_tells (combined_duration m) (pos 0)))
-wanted_tells x Reverses = runs_tells x _ _ (λ r. same_tells r.adjusted x.event.after)
-wanted_tells x Replaces = runs_tells x _ _ (λ r. (λ _. tt, λ _. refl))
-wanted_tells x Keeps = (λ _. tt, λ _. refl)
+meets_tells x DropsCompleted = Decides-and _ _ (none_tells x.running) (some_tells x.completed _ _ (λ c. Decides-not _ (same_tells c.to x.event.after)))
+meets_tells x CancelsThere = runs_tells x _ _ (λ r. Decides-or _ _ (same_tells (current x r) x.event.after) (not_itself (is_interpolable x.event.property (current x r) x.event.after)))
+meets_tells x CancelsAtOnce = runs_tells x _ _ (λ r. some_tells x.matched _ _ (λ m. le_tells (combined_duration m) (pos 0)))
+meets_tells x Reverses = runs_tells x _ _ (λ r. same_tells r.adjusted x.event.after)
+meets_tells x Replaces = runs_tells x _ _ (λ r. (λ _. tt, λ _. refl))
+meets_tells x Keeps = (λ _. tt, λ _. refl)
 
 -- ---- the first rule that is wanted applies
 
 -- each rule below this rank isn't wanted
 NoneBelow : Change → ℕ → Type 0
-NoneBelow x n = (other : Rule) → rank other < n → wanted x other ≡ false
+NoneBelow x n = (other : Rule) → rank other < n → meets x other ≡ false
 
-one_more : (x : Change) (rule : Rule) → NoneBelow x (rank rule) → wanted x rule ≡ false → NoneBelow x (suc (rank rule))
+one_more : (x : Change) (rule : Rule) → NoneBelow x (rank rule) → meets x rule ≡ false → NoneBelow x (suc (rank rule))
 unfolding NoneBelow
 one_more x rule none e other less = elim (cases_lt (rank other) (rank rule)) [
   | inl below ↦ none other below
-  | inr above ↦ let same : rank rule ≡ rank other = omega arith in subst (λ (r : Rule). wanted x r ≡ false) (sym (ranked rule) ∙ ap rule_at same ∙ ranked other) e
+  | inr above ↦ let same : rank rule ≡ rank other = omega arith in subst (λ (r : Rule). meets x r ≡ false) (sym (ranked rule) ∙ ap rule_at same ∙ ranked other) e
 ]
 
-found : (x : Change) (rule : Rule) → NoneBelow x (rank rule) → wanted x rule ≡ true → Applies x rule
+found : (x : Change) (rule : Rule) → NoneBelow x (rank rule) → meets x rule ≡ true → Applies x rule
 unfolding NoneBelow
 found x rule none e = record {
-  wants = (wanted_tells x rule).0 e;
-  first = λ other less wants. false≢true (sym (none other less) ∙ (wanted_tells x other).1 wants);
+  wants = (meets_tells x rule).0 e;
+  first = λ other less wants. false≢true (sym (none other less) ∙ (meets_tells x other).1 wants);
 }
 
-chosen : (x : Change) (rule rest : Rule) → NoneBelow x (rank rule) → (NoneBelow x (suc (rank rule)) → Applies x rest) → Applies x (if wanted x rule then rule else rest)
-chosen x rule rest none more = pick (wanted x rule) refl where
-  pick : (b : Bool) → wanted x rule ≡ b → Applies x (if b then rule else rest)
+chosen : (x : Change) (rule rest : Rule) → NoneBelow x (rank rule) → (NoneBelow x (suc (rank rule)) → Applies x rest) → Applies x (if meets x rule then rule else rest)
+chosen x rule rest none more = pick (meets x rule) refl where
+  pick : (b : Bool) → meets x rule ≡ b → Applies x (if b then rule else rest)
   pick true e = found x rule none e
   pick false e = more (one_more x rule none e)
 
@@ -131,4 +134,4 @@ applies x =
 
 pub decides : (x : Change) (d : Decision) → Decides x d ↔ (d ≡ decision_of x)
 unfolding decision_of
-decides x d = (λ (rule, is, e). e ∙ ap (outcome x) (only_one x rule (rule_of x) is (applies x)), λ e. (rule_of x, applies x, e))
+decides x d = (λ (rule, is, e). e ∙ ap (decision_by x) (only_one x rule (rule_of x) is (applies x)), λ e. (rule_of x, applies x, e))

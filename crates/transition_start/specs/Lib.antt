@@ -1,3 +1,6 @@
-pub mod Decision
+pub mod Change
+pub mod Functions
 pub mod Phase
+pub mod Results
+pub mod Rules
 pub mod Sampling

@@ -4,7 +4,7 @@ use fix_num::Micros;
 use value_types::{PropertyId, Value};
 
 /// The change of one property of an element at a style change event (CSS Transitions 1, section 3).
-#[derive(Clone, Copy, Debug, PartialEq, Eq)]
+#[derive(Clone, Copy)]
 pub struct PropertyChange {
     pub property: PropertyId,
     /// The before-change value.

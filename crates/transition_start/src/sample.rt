@@ -12,7 +12,7 @@ use interpolation::between;
 use style_data::{Phase, Running, Transition};
 use value_types::{PropertyId, Value};
 
-/// The phase of a running transition at time `t` (Web Animations Level 1, section 4.5.5).
+/// The phase of a running transition at time `t` (Web Animations Level 1, "Animation effect phases and states").
 pub fn phase_at(r: &Running, t: Micros) -> Phase
     ensures { result ≡ phase_of r.now t.0 }
 {

@@ -1,4 +1,4 @@
-use Rattle.transition_start.specs.Decision.{rule_of}
+use Rattle.transition_start.specs.Functions.{rule_of}
 use Rattle.transition_start.proofs.Rules.{applies, only_one}
 use Rattle.transition_start.proofs.laws.exactly_one_rule.Goals as goal
 

@@ -1,7 +1,7 @@
-use Rattle.std.proofs.Common.{◌≡◌, ◌∙◌, ◌*◌, ◌^◌, ◌≤◌, ◌<◌, arith, ap, rules}
-use Rattle.std.specs.Prelude.{ℤ, pos, ◌≤ℤ◌, ◌*ℤ◌, ◌-ℤ◌, FitsSigned, unsigned_abs}
-use Rattle.std.specs.Int.{w64, w128, cast_signed, cast_unsigned}
-use Rattle.std.proofs.lemmas.Int.{ints, to_z-of_z}
+use Rattle.std.proofs.Common.{rules}
+use Rattle.std.specs.Prelude.{◌-ℤ◌}
+use Rattle.std.specs.Int.{w64, w128}
+use Rattle.std.proofs.lemmas.Int.{to_z-of_z}
 use mir.Val.{SFits}
 use Rattle.transition_start.proofs.Times.{difference_fits, elapsed_fits}
 use Rattle.transition_start.specs.Sampling.{output_at}

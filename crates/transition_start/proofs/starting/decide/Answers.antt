@@ -1,6 +1,6 @@
-use Rattle.std.proofs.Common.{◌≡◌, ◌∙◌, ap, sym, refl}
+use Rattle.std.proofs.Common.{◌∙◌, ap, sym, refl}
 use Rattle.std.specs.Prelude.{None, Some, option_copied}
-use Rattle.transition_start.specs.Decision.{property_change}
+use Rattle.transition_start.specs.Change.{property_change}
 use Rattle.transition_start.proofs.Cases.{other_none, same_change}
 use Rattle.transition_start.proofs.starting.decide.Goals as goal
 

@@ -1,6 +1,6 @@
-use Rattle.std.specs.Prelude.{ℤ, ◌+ℤ◌}
+use Rattle.std.specs.Prelude.{◌+ℤ◌}
 use Rattle.std.specs.Int.{w64}
-use Rattle.std.proofs.Common.{◌*◌, ◌^◌, ◌≤◌, ◌<◌, rules}
+use Rattle.std.proofs.Common.{rules}
 use Rattle.std.proofs.lemmas.Int.{to_z-of_z}
 use mir.Val.{SFits}
 use Rattle.transition_start.proofs.starting.times.Goals as goal

@@ -1,5 +1,0 @@
-use Rattle.std.proofs.Common.{◌≡◌, take}
-use Rattle.style_data.proofs.entry.copy_animations.Given as goal
-
-abbrev pub invariant-loop-animation : goal.invariant-loop-animation
-invariant-loop-animation l = l.copies ≡ take l.animation-index l.animations

@@ -1,0 +1,209 @@
+//! Equality of what is kept.
+
+ghost use Rattle.std.specs.Prelude.{◌≡◌, ◌↔◌, ◌∷◌, [], IsTrue, option_copied, unwrap_or};
+ghost use Rattle.value_types.specs.TimingLists.{initial_animations, initial_transitions};
+
+use crate::animation::{Animation, AnimationState};
+use crate::gone::{Gone, Subject};
+use crate::timing::AnimTiming;
+use crate::transition::{Completed, Running, Transition};
+use crate::winners::Winners;
+use fix_num::{Fix, Micros};
+use interpolation::same;
+use value_types::{
+    AnimationLists, Count, Direction, Easing, Fill, Name, PlayState, PropertyId, PropertyItem,
+    Same, TransitionLists,
+};
+
+impl Same for Winners {
+    fn is_same(&self, other: &Winners) -> bool {
+        self.important.is_same(&other.important) && self.normal.is_same(&other.normal)
+    }
+}
+
+impl Same for Subject {
+    fn is_same(&self, other: &Subject) -> bool {
+        match (self, other) {
+            (Subject::Property(p), Subject::Property(q)) => p == q,
+            (Subject::Animation(a), Subject::Animation(b)) => a.is_same(b),
+            _ => false,
+        }
+    }
+}
+
+impl Same for Gone {
+    fn is_same(&self, other: &Gone) -> bool {
+        self.subject.is_same(&other.subject)
+            && self.place == other.place
+            && self.cancelled == other.cancelled
+            && self.elapsed == other.elapsed
+            && self.generation == other.generation
+            && self.position == other.position
+            && self.seen == other.seen
+    }
+}
+
+impl Same for Completed {
+    fn is_same(&self, other: &Completed) -> bool {
+        same(self.to, other.to)
+    }
+}
+
+impl Same for Running {
+    fn is_same(&self, other: &Running) -> bool {
+        are_same_transitions(self.get(), other.get())
+    }
+}
+
+fn are_same_transitions(a: Transition, b: Transition) -> bool
+    ensures { IsTrue result ↔ (a ≡ b) }
+{
+    have_same_values(a, b) && have_same_times(a, b) && have_same_origin(a, b)
+}
+
+fn have_same_values(a: Transition, b: Transition) -> bool
+    ensures { IsTrue result ↔ ((a.from ≡ b.from) × (a.to ≡ b.to) × (a.adjusted ≡ b.adjusted)) }
+{
+    same(a.from, b.from) && same(a.to, b.to) && same(a.adjusted, b.adjusted)
+}
+
+fn have_same_times(a: Transition, b: Transition) -> bool
+    ensures { IsTrue result ↔ ((a.created ≡ b.created) × (a.start ≡ b.start) × (a.end ≡ b.end) × (a.easing ≡ b.easing)) }
+{
+    a.created == b.created && a.start == b.start && a.end == b.end && a.easing.is_same(&b.easing)
+}
+
+fn have_same_origin(a: Transition, b: Transition) -> bool
+    ensures { IsTrue result ↔ ((a.factor ≡ b.factor) × (a.generation ≡ b.generation) × (a.position ≡ b.position) × (a.seen ≡ b.seen)) }
+{
+    a.factor == b.factor
+        && a.generation == b.generation
+        && a.position == b.position
+        && a.seen == b.seen
+}
+
+impl Same for AnimTiming {
+    fn is_same(&self, other: &AnimTiming) -> bool {
+        let (a, b) = (self.get(), other.get());
+        a.duration == b.duration
+            && a.delay == b.delay
+            && a.count.is_same(&b.count)
+            && a.direction == b.direction
+            && a.fill == b.fill
+            && a.easing.is_same(&b.easing)
+    }
+}
+
+impl Same for AnimationState {
+    fn is_same(&self, other: &AnimationState) -> bool {
+        self.name.is_same(&other.name)
+            && self.place == other.place
+            && self.first_place == other.first_place
+            && self.created == other.created
+            && self.start == other.start
+            && self.hold.is_same(&other.hold)
+            && self.timing.is_same(&other.timing)
+            && self.generation == other.generation
+            && self.position == other.position
+            && self.seen == other.seen
+            && self.iteration == other.iteration
+    }
+}
+
+impl Same for Animation {
+    fn is_same(&self, other: &Animation) -> bool {
+        self.get().is_same(other.get())
+    }
+}
+
+/// Whether the lists are the same, item by item.
+pub(crate) fn are_same<T: Same>(xs: &[T], ys: &[T]) -> bool
+    ensures { IsTrue result ↔ (xs.now ≡ ys.now) }
+{
+    if xs.len() != ys.len() {
+        return false;
+    }
+    for (i, x) in xs.iter().enumerate() {
+        if !x.is_same(&ys[i]) {
+            return false;
+        }
+    }
+    true
+}
+
+/// Whether the lists of properties have the same of the same properties.
+pub(crate) fn have_same<T: Same>(xs: &[(PropertyId, T)], ys: &[(PropertyId, T)]) -> bool
+    ensures { IsTrue result ↔ (xs.now ≡ ys.now) }
+{
+    if xs.len() != ys.len() {
+        return false;
+    }
+    for (i, x) in xs.iter().enumerate() {
+        let y = &ys[i];
+        if x.0 != y.0 {
+            return false;
+        }
+        if !x.1.is_same(&y.1) {
+            return false;
+        }
+    }
+    true
+}
+
+fn is_only<T: Same>(xs: &[T], x: &T) -> bool
+    ensures { IsTrue result ↔ (xs.now ≡ x.now ∷ []) }
+{
+    xs.len() == 1 && xs[0].is_same(x)
+}
+
+/// Whether each list that times transitions is initial.
+fn are_initial_transitions(lists: &TransitionLists) -> bool
+    ensures { IsTrue result ↔ (lists.now ≡ initial_transitions) }
+{
+    is_only(lists.items(), &PropertyItem::All)
+        && is_only(lists.durations(), &Micros(0))
+        && is_only(lists.delays(), &Micros(0))
+        && is_only(lists.easings(), &Easing::ease())
+}
+
+/// Whether each list that times animations is initial.
+fn are_initial_animations(lists: &AnimationLists) -> bool
+    ensures { IsTrue result ↔ (lists.now ≡ initial_animations) }
+{
+    let none: Option<Name> = None;
+    is_only(lists.names(), &none)
+        && is_only(lists.durations(), &Micros(0))
+        && is_only(lists.delays(), &Micros(0))
+        && is_only(lists.easings(), &Easing::ease())
+        && is_only(lists.counts(), &Count::Times(Fix::ONE))
+        && is_only(lists.directions(), &Direction::Normal)
+        && is_only(lists.fills(), &Fill::Nothing)
+        && is_only(lists.states(), &PlayState::Running)
+}
+
+/// Whether the lists that time transitions are the same, where lists that are left out are initial.
+pub(crate) fn time_transitions_alike(
+    a: Option<&TransitionLists>,
+    b: Option<&TransitionLists>,
+) -> bool
+    ensures { IsTrue result ↔ (unwrap_or (option_copied a.entry) initial_transitions ≡ unwrap_or (option_copied b.entry) initial_transitions) }
+{
+    match (a, b) {
+        (None, None) => true,
+        (Some(a), Some(b)) => a.is_same(b),
+        (Some(a), None) => are_initial_transitions(a),
+        (None, Some(b)) => are_initial_transitions(b),
+    }
+}
+
+/// Whether the lists that time animations are the same, where lists that are left out are initial.
+pub(crate) fn time_animations_alike(a: Option<&AnimationLists>, b: Option<&AnimationLists>) -> bool
+    ensures { IsTrue result ↔ (unwrap_or (option_copied a.entry) initial_animations ≡ unwrap_or (option_copied b.entry) initial_animations) }
+{
+    match (a, b) {
+        (None, None) => true,
+        (Some(a), Some(b)) => a.is_same(b),
+        (Some(a), None) => are_initial_animations(a),
+        (None, Some(b)) => are_initial_animations(b),
+    }
+}

@@ -1,0 +1,30 @@
+//! Winning declarations.
+
+use std::test::Fail;
+use style_data::{DeclaredSet, Winning};
+use value_types::{Declared, ListName, ListValue, PropertyId, Same};
+
+#[test]
+fn collects_winners(rt: HostRuntime) -> Result<(), Fail> {
+    let mut winning = Winning::new(rt.alloc());
+    winning.put(PropertyId::ZIndex, true, Declared::Auto)?;
+    winning.put(PropertyId::ZIndex, false, Declared::Initial)?;
+    winning.put_list(ListName::AnimationName, false, ListValue::Initial)?;
+    let declared = winning.finish(rt.alloc())?;
+    let copy = declared.copy()?;
+    let winners = copy.winners(PropertyId::ZIndex);
+    assert!(rt; winners.important == Some(Declared::Auto));
+    assert!(rt; winners.normal == Some(Declared::Initial));
+    assert!(rt; copy.winners(PropertyId::Width).normal.is_none());
+    assert!(rt; copy.list(ListName::AnimationName, false).is_some());
+    assert!(rt; copy.list(ListName::AnimationName, true).is_none());
+    assert!(rt; copy.is_same(&declared) && !copy.is_same(&DeclaredSet::empty()));
+    Ok(())
+}
+
+#[test]
+fn none_is_empty(rt: HostRuntime) -> Result<(), Fail> {
+    let declared = Winning::new(rt.alloc()).finish(rt.alloc())?;
+    assert!(rt; declared.is_same(&DeclaredSet::empty()));
+    Ok(())
+}

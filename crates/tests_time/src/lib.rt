@@ -1,0 +1,18 @@
+//! Floor: time. The tests of this floor's crates and of the matching of transition lists, of what no contract says:
+//! that calls which allocate succeed, and numbers typed from the standards.
+#![tactic(auto)]
+
+#[cfg(test)]
+mod declarations;
+#[cfg(test)]
+mod entries;
+#[cfg(test)]
+mod events;
+#[cfg(test)]
+mod fading;
+#[cfg(test)]
+mod matching;
+#[cfg(test)]
+mod starting;
+#[cfg(test)]
+mod styles;
