@@ -36,10 +36,10 @@ pub use laws::{
     computed_value_by_property, initial_values_are_inherited, lookup_is_membership, never_both,
 };
 pub use sampling::{NoSampling, Sampling};
-pub use value_types::Shared;
 pub use style::Style;
 pub use threads::entries_may_be_shared;
 pub use timing::{AnimTiming, AnimationTiming};
 pub use transition::{Completed, Phase, Running, Transition};
 pub use transitions::Transitions;
+pub use value_types::Shared;
 pub use winners::Winners;
