@@ -13,7 +13,7 @@ use Rattle.doc_tree.specs.declared.node.Node.{Node}
 use Rattle.doc_tree.specs.Marks.{Kept, Mark, Open, Close, code, opened, has, slots_of, marks_until, slots_in, rank_in, with_ranks, with_order, with_positions, document_of, element_at, depth_at, is_live, no_element, AreDifferent, AreRanks, IsAt, IsSound, IsSlotOf, Leads}
 use Rattle.doc_tree.proofs.Numbers.{has-self, at-set_same, at-set_other, different-before}
 use Rattle.doc_tree.proofs.Links.{leads-split, leads-fresh, until-leads}
-use Rattle.doc_tree.proofs.Tours.{opened-append, different-opened, slots_of-codes}
+use Rattle.doc_tree.proofs.Tours.{even, odd, half, opened-append, different-opened, slots_of-codes}
 use Rattle.doc_tree.proofs.Spans.{position-span, subtree-span, slots-span}
 use Rattle.doc_tree.proofs.Sound.{opened-live, live-opened, elements-sound, slots-sound, codes-sound, count-opened, proper, span-of}
 
@@ -22,15 +22,6 @@ rank-at ranks i [] (Open s) ys r = omega (arith, r.0.is)
 rank-at ranks i [] (Close s) ys r = omega (arith, r.0.is)
 rank-at ranks i (Open s ∷ xs) y ys r = omega (arith, rank-at ranks (i + 1) xs y ys r.1)
 rank-at ranks i (Close s ∷ xs) y ys r = rank-at ranks i xs y ys r.1
-
-even : (s : ℕ) → eqb ((2 * s + 2) % 2) 0 ≡ true
-even s = eq-eqb _ _ (omega arith)
-
-odd : (s : ℕ) → eqb ((2 * s + 3) % 2) 0 ≡ false
-odd s = ne_eqb _ _ (λ same. omega arith)
-
-half : (s : ℕ) → (2 * s + 2) / 2 - 1 ≡ s
-half s = omega arith
 
 -- writes of other marks leave a rank
 ranks-kept : (ms : List ℕ) (i v k : ℕ) (ranks : List ℕ) → has i ms ≡ false → IsAt ranks i v → IsAt (with_ranks ms k ranks) i v

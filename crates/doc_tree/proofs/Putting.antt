@@ -14,7 +14,7 @@ use Rattle.doc_tree.specs.declared.limits.TheConstants.{MAX_DEPTH, MAX_ELEMENTS,
 use Rattle.doc_tree.specs.Marks.{Kept, Mark, Open, Close, code, opened, has, document_of, element_at, depth_at, is_live, number_above, no_element, with_node, AreDifferent, IsAt, IsBelow, IsSound, IsSized, IsFit, Nests, Leads}
 use Rattle.doc_tree.proofs.Numbers.{has-append, has-self, at-append, at-seam, below-at, below-set, below-weaker, different-put, absent-from}
 use Rattle.doc_tree.proofs.Links.{first_mark, first_mark-nil, first_mark-cons, splice, leads-split, leads-fresh, target_within}
-use Rattle.doc_tree.proofs.Tours.{opened-append, no_code, nests-join, nests-same, number_above-kept, elements-same, rooted-same, open_was_opened, IsSameAt}
+use Rattle.doc_tree.proofs.Tours.{opened-append, no_code, nests-join, nests-same, number_above-same, elements-same, rooted-same, open_was_opened, IsSameAt}
 use Rattle.doc_tree.proofs.Sound.{opened-live, elements-sound}
 
 -- an index past the end has the default
@@ -121,7 +121,7 @@ module _ (k : Kept) (sound : IsSound k) (x : Node) (m : ℕ) (gap : IsGap k soun
   nests-put : Nests el' dep' marks' [] []
   nests-put =
       let below : IsBelow el' dep' gap.stack c = record {
-        parent = ap (λ (e : Element). e.parent) own-element ∙ (gap.parent ∙ number_above-kept el el' dep dep' gap.stack same-stack);
+        parent = ap (λ (e : Element). e.parent) own-element ∙ (gap.parent ∙ number_above-same el el' dep dep' gap.stack same-stack);
         depth = own-depth ∙ gap.depth;
       } in
       nests-join el' dep' gap.xs (Open c ∷ Close c ∷ gap.ys) [] gap.stack [] (nests-same el el' dep dep' gap.xs [] gap.stack (λ t h. absurd (false≢true h)) same-front gap.front)

@@ -11,13 +11,14 @@ opened-append [] ys = refl
 opened-append (Open s ∷ xs) ys = ap (λ (ss : List ℕ). s ∷ ss) (opened-append xs ys)
 opened-append (Close s ∷ xs) ys = opened-append xs ys
 
-even : (s : ℕ) → eqb ((2 * s + 2) % 2) 0 ≡ true
+-- which marks open, and which slot
+pub even : (s : ℕ) → eqb ((2 * s + 2) % 2) 0 ≡ true
 even s = eq-eqb _ _ (omega arith)
 
-odd : (s : ℕ) → eqb ((2 * s + 3) % 2) 0 ≡ false
+pub odd : (s : ℕ) → eqb ((2 * s + 3) % 2) 0 ≡ false
 odd s = ne_eqb _ _ (λ same. omega arith)
 
-half : (s : ℕ) → (2 * s + 2) / 2 - 1 ≡ s
+pub half : (s : ℕ) → (2 * s + 2) / 2 - 1 ≡ s
 half s = omega arith
 
 -- the slots that marks open, had from their numbers
@@ -199,16 +200,13 @@ pub record IsSameAt (el el' : ℕ → Element) (dep dep' : ℕ → ℕ) (s : ℕ
   pub element : el' s ≡ el s
   pub depth : dep' s ≡ dep s
 
-number_above-same : (el el' : ℕ → Element) (dep dep' : ℕ → ℕ) (stack : List ℕ) → ((t : ℕ) → has t stack ≡ true → IsSameAt el el' dep dep' t) → number_above el stack ≡ number_above el' stack
+pub number_above-same : (el el' : ℕ → Element) (dep dep' : ℕ → ℕ) (stack : List ℕ) → ((t : ℕ) → has t stack ≡ true → IsSameAt el el' dep dep' t) → number_above el stack ≡ number_above el' stack
 number_above-same el el' dep dep' [] same = refl
 number_above-same el el' dep dep' (q ∷ stack) same = ap (λ (e : Element). Some e.number) (sym (same q (has-self q stack)).element)
 
 pub below-same : (el el' : ℕ → Element) (dep dep' : ℕ → ℕ) (s : ℕ) (stack : List ℕ) → IsSameAt el el' dep dep' s → ((t : ℕ) → has t stack ≡ true → IsSameAt el el' dep dep' t) → IsBelow el dep stack s → IsBelow el' dep' stack s
 below-same el el' dep dep' s stack own same below =
     record { parent = ap (λ (e : Element). e.parent) own.element ∙ (below.parent ∙ number_above-same el el' dep dep' stack same); depth = own.depth ∙ below.depth }
-
-pub number_above-kept : (el el' : ℕ → Element) (dep dep' : ℕ → ℕ) (stack : List ℕ) → ((t : ℕ) → has t stack ≡ true → IsSameAt el el' dep dep' t) → number_above el stack ≡ number_above el' stack
-number_above-kept = number_above-same
 
 pub nests-same : (el el' : ℕ → Element) (dep dep' : ℕ → ℕ) (ms : List Mark) (stack end : List ℕ) → ((t : ℕ) → has t stack ≡ true → IsSameAt el el' dep dep' t) → ((t : ℕ) → has t (opened ms) ≡ true → IsSameAt el el' dep dep' t)
     → Nests el dep ms stack end → Nests el' dep' ms stack end

@@ -4,6 +4,12 @@
 //!
 //! A [`Tree`] is seen as its list of elements in tree order and the numbers used so far; it knows
 //! no time and no meaning of style texts.
+//!
+//! ```text
+//! tree.add(1, None, "div")?;
+//! tree.add(2, Some(1), "p")?;
+//! tree.position(2) // Some(1)
+//! ```
 #![tactic(auto)]
 
 mod add;

@@ -1,6 +1,6 @@
 //! Places in tree order.
 
-ghost use Rattle.std.specs.Prelude.{◌≡◌, ◌+◌, ◌-◌, ◌*◌, ◌/◌, ◌%◌, ◌^◌, ◌<◌, ◌≤◌, ◌==◌, length, nat_lt, if◌then◌else◌, IsTrue, IfSome, slice_index_or, slice_set, slice_get, option_copied, option_map, None};
+ghost use Rattle.std.specs.Prelude.{◌≡◌, ◌+◌, ◌-◌, ◌*◌, ◌/◌, ◌%◌, ◌^◌, ◌<◌, ◌≤◌, ◌==◌, length, nat_lt, if◌then◌else◌, IsTrue, IfSome, slice_index_or, slice_set, slice_get, option_copied, option_map, None, true};
 ghost use Rattle.std.specs.List.{list_all};
 ghost use Rattle.doc_tree.specs.Element.{position_of, subtree_end_of};
 ghost use Rattle.doc_tree.specs.Marks.{document_of, kept_of, marks_until, rank_in, slots_in, slots_of, with_order, with_ranks, IsSound};
@@ -101,6 +101,7 @@ pub fn count_positions(nodes: &mut Nodes)
     requires { IsSound (kept_of nodes.old) }
     ensures sound { IsSound (kept_of nodes.new) }
     ensures document { document_of (kept_of nodes.new) ≡ document_of (kept_of nodes.old) }
+    ensures fresh { nodes.new.fresh ≡ true }
 {
     let first = nodes.next[START] as usize;
     let most = 2 * nodes.len;
