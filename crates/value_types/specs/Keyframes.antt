@@ -16,10 +16,10 @@ pub record IsFrame (f : Frame) : Type 0 where
   pub easing : IfSome f.easing IsEasing
 
 -- f stands before g: at a smaller offset, or at the same one with a smaller property number
-abbrev pub ComesBefore : Frame → Frame → Type 0
-ComesBefore f g = (f.offset.0 <ℤ g.offset.0) ⊎ ((f.offset.0 ≡ g.offset.0) × (number_of f.property < number_of g.property))
+abbrev pub IsFrameBefore : Frame → Frame → Type 0
+IsFrameBefore f g = (f.offset.0 <ℤ g.offset.0) ⊎ ((f.offset.0 ≡ g.offset.0) × (number_of f.property < number_of g.property))
 
 -- the frames of a rule, in their order, one for each offset and property
 pub record IsFrames (fs : List Frame) : Type 0 where
   pub each : All IsFrame fs
-  pub ascending : AllPairs ComesBefore fs
+  pub ascending : AllPairs IsFrameBefore fs
