@@ -10,7 +10,7 @@ use Rattle.doc_tree.specs.Fault.{Answers, child_depth, fault_at_depth, fault_of_
 use Rattle.doc_tree.specs.declared.fault.TreeFault.{TreeFault}
 use Rattle.doc_tree.specs.declared.node.Node.{Node}
 use Rattle.doc_tree.specs.declared.limits.TheConstants.{MAX_DEPTH, MAX_ELEMENTS, MAX_SLOTS}
-use Rattle.doc_tree.specs.Marks.{Kept, Mark, Open, Close, code, opened, has, document_of, element_at, depth_at, is_live, number_above, with_node, IsSound, IsSlotOf, IsEnd, IsLastOf, IsPlaceBelow, IsPlaceBefore}
+use Rattle.doc_tree.specs.Marks.{Kept, Mark, Open, Close, code, opened, has, document_of, element_at, depth_at, is_live, number_above, with_node, AreMarksOfTree, IsSlotOf, IsEnd, IsLastOf, IsPlaceBelow, IsPlaceBefore}
 use Rattle.doc_tree.proofs.Links.{first_mark-nil, first_mark-cons}
 use Rattle.doc_tree.proofs.Tours.{opened-append, nests-join}
 use Rattle.doc_tree.proofs.Spans.{ends-span}
@@ -48,14 +48,14 @@ empty_marks (m ∷ ms) h = absurd (omega arith)
 
 -- what an edit makes of a sound tree, where it is accepted
 pub record IsEdited (k' : Kept) (Q : Type 0) : Type 0 where
-  pub sound : IsSound k'
+  pub sound : AreMarksOfTree k'
   pub is : Q
 
 child-depth : (o : Option ℕ) (es : List Element) → child_depth o es ≡ length (option_map_or (inclusive_ancestors es) o []) + 1
 child-depth None es = refl
 child-depth (Some p) es = refl
 
-module _ (k : Kept) (sound : IsSound k) (n : ℕ) (tag : List ℕ) where
+module _ (k : Kept) (sound : AreMarksOfTree k) (n : ℕ) (tag : List ℕ) where
   abbrev el : ℕ → Element
   el = element_at k.slots
 
@@ -66,7 +66,7 @@ module _ (k : Kept) (sound : IsSound k) (n : ℕ) (tag : List ℕ) where
   new-node parent depth root fine few =
       record { unused = fine.unused; few = few; room = omega (arith, fine.room, length-sound k sound); shallow = fine.shallow; bounded = refl }
 
-  -- behind all that is below the element of slot s
+  -- after all that is below the element of slot s
   gap-below : (p s mark : ℕ) (parent : Option ℕ) (depth : ℕ) → IsSlotOf k p s → mark ≡ 2 * s + 3 → parent ≡ Some p → depth ≡ depth_at k.slots s + 1 → IsGap k sound.marks (node parent depth) mark
   gap-below p s mark parent depth of mark_is parent_is depth_is =
       let sp = span-of k sound s of.live in
@@ -216,8 +216,8 @@ module _ (k : Kept) (sound : IsSound k) (n : ℕ) (tag : List ℕ) where
       → IsEdited k' (OnOk result (IsAdded (document_of k) (document_of k') (new_element n o tag)))
   add-result k' o mark parent depth (Ok u) place answer is few same =
       let edited = added-below o mark parent depth place (faultless (document_of k) n depth (is_none parent) (ok_faultless (fault_at_depth (document_of k) n depth (is_none parent)) u answer)) few in
-      record { sound = subst IsSound (sym is) edited.sound; is = subst (λ (z : Kept). IsAdded (document_of k) (document_of z) (new_element n o tag)) (sym is) edited.is }
-  add-result k' o mark parent depth (Err e) place answer is few same = record { sound = subst IsSound (sym same) sound; is = tt }
+      record { sound = subst AreMarksOfTree (sym is) edited.sound; is = subst (λ (z : Kept). IsAdded (document_of k) (document_of z) (new_element n o tag)) (sym is) edited.is }
+  add-result k' o mark parent depth (Err e) place answer is few same = record { sound = subst AreMarksOfTree (sym same) sound; is = tt }
 
   -- and of an insert
   pub insert-result : (k' : Kept) (sibling mark : ℕ) (parent : Option ℕ) (depth : ℕ) (result : Result (Unit {0}) TreeFault) → IsPlaceBefore k sibling mark parent depth
@@ -225,15 +225,15 @@ module _ (k : Kept) (sound : IsSound k) (n : ℕ) (tag : List ℕ) where
       → IsEdited k' (OnOk result (IsInserted (document_of k) (document_of k') n sibling tag))
   insert-result k' sibling mark parent depth (Ok u) place answer is few same =
       let edited = inserted-before sibling mark parent depth place (faultless (document_of k) n depth (is_none parent) (ok_faultless (fault_at_depth (document_of k) n depth (is_none parent)) u answer)) few in
-      record { sound = subst IsSound (sym is) edited.sound; is = subst (λ (z : Kept). IsInserted (document_of k) (document_of z) n sibling tag) (sym is) edited.is }
-  insert-result k' sibling mark parent depth (Err e) place answer is few same = record { sound = subst IsSound (sym same) sound; is = tt }
+      record { sound = subst AreMarksOfTree (sym is) edited.sound; is = subst (λ (z : Kept). IsInserted (document_of k) (document_of z) n sibling tag) (sym is) edited.is }
+  insert-result k' sibling mark parent depth (Err e) place answer is few same = record { sound = subst AreMarksOfTree (sym same) sound; is = tt }
 
   -- the fault told in another way
   pub answers-by : {T : Type 0} (f g : Option TreeFault) (result : Result T TreeFault) → f ≡ g → Answers g result → Answers f result
   answers-by {T} f g result same answer = subst (λ (h : Option TreeFault). Answers {T = T} h result) (sym same) answer
 
 -- the fault that is found, in the order of the tests
-module _ (k : Kept) (sound : IsSound k) (n depth : ℕ) (root : Bool) (unused : false ≡ has n k.keys) where
+module _ (k : Kept) (sound : AreMarksOfTree k) (n depth : ℕ) (root : Bool) (unused : false ≡ has n k.keys) where
   pub fault-nodes : MAX_ELEMENTS < k.len + 1 → Some BoundNodes ≡ fault_at_depth (document_of k) n depth root
   fault-nodes many =
       let full : nat_lt MAX_ELEMENTS (length (document_of k).elements + 1) ≡ true = lt-ltb _ _ (omega (arith, length-sound k sound)) in

@@ -9,7 +9,7 @@ use Rattle.doc_tree.specs.Shape.{is_bounded}
 use Rattle.doc_tree.specs.Change.{with_change}
 use Rattle.doc_tree.specs.declared.node.Node.{Node}
 use Rattle.doc_tree.specs.declared.limits.TheConstants.{MAX_DEPTH}
-use Rattle.doc_tree.specs.Marks.{Kept, Mark, Open, Close, opened, has, document_of, element_at, depth_at, is_live, number_above, no_element, with_element, IsAt, IsSound, IsSlotOf, Nests}
+use Rattle.doc_tree.specs.Marks.{Kept, Mark, Open, Close, opened, has, document_of, element_at, depth_at, is_live, number_above, no_element, with_element, IsAt, AreMarksOfTree, IsSlotOf, Nests}
 use Rattle.doc_tree.proofs.Numbers.{has-self}
 use Rattle.doc_tree.proofs.Sound.{opened-live, elements-sound, same-slot}
 
@@ -49,7 +49,7 @@ there : (o : Option Node) → is_some o ≡ true → IsThere o
 there None h = absurd (false≢true h)
 there (Some x) h = record { node = x; is = refl }
 
-module _ (k : Kept) (sound : IsSound k) (n s : ℕ) (of : IsSlotOf k n s) (change : Element → Element) (keeps : (e : Element) → KeepsPlace e (change e)) (bounded : is_bounded (change (element_at k.slots s)) ≡ true) where
+module _ (k : Kept) (sound : AreMarksOfTree k) (n s : ℕ) (of : IsSlotOf k n s) (change : Element → Element) (keeps : (e : Element) → KeepsPlace e (change e)) (bounded : is_bounded (change (element_at k.slots s)) ≡ true) where
   abbrev el : ℕ → Element
   el = element_at k.slots
 
@@ -122,7 +122,7 @@ module _ (k : Kept) (sound : IsSound k) (n s : ℕ) (of : IsSlotOf k n s) (chang
         | inr other ↦ ap is_bounded (other-element t (not_equal t other)) ∙ (sound.fit t live).bounded
       ]
 
-  pub changed-sound : IsSound k'
+  pub changed-sound : AreMarksOfTree k'
   changed-sound = record {
     marks = sound.marks;
     tour = record {

@@ -4,7 +4,7 @@ use Rattle.std.specs.Option.{option_map_or}
 use Rattle.std.specs.List.{list_any}
 use Rattle.std.proofs.lemmas.Bool.{cases_Bool, eq-eqb, ne_eqb, or_cases, or_parts, or_from, or_left, or_right, false_from_ne_true, false≢true}
 use Rattle.doc_tree.specs.Element.{Element, is_in, chain, reversed_onto}
-use Rattle.doc_tree.specs.Shape.{Follows, IsNext, IsGrown}
+use Rattle.doc_tree.specs.Shape.{Follows, MayComeNext, IsGrown}
 use Rattle.doc_tree.proofs.Chains.{Has, Differ, chain-here, chain-past_all, chain-ends, has-end}
 
 pub onto-append : (xs ys r : List Element) → reversed_onto (xs ++ ys) r ≡ reversed_onto ys (reversed_onto xs r)
@@ -65,7 +65,7 @@ pub chain-stays : (e : Element) (es r : List Element) → IsGrown (e ∷ r) es �
 chain-stays e es r g =
     chain-past_all es (e ∷ r) e.number (later_differ e.number es (e ∷ r) g (there_itself e r))
 
--- the parent that an element behind `last` names is in the chain of `last`
+-- the parent that an element after `last` names is in the chain of `last`
 pub record HasParent (last : Element) (r : List Element) (parent : Option ℕ) : Type 0 where
   pub number : ℕ
   pub is : parent ≡ Some number
@@ -80,7 +80,7 @@ chain-child e r q is =
     chain-here e r e.number (eq-eqb e.number e.number refl) ∙ ap (λ (o : Option ℕ). e ∷ option_map_or (chain r) o []) is
 
 -- the next element is outside a subtree where the last one is, or where it lies too high
-outside_next : (p : ℕ) (last e : Element) (r : List Element) → IsNext (last ∷ r) e → is_in p (last ∷ r) ≡ true
+outside_next : (p : ℕ) (last e : Element) (r : List Element) → MayComeNext (last ∷ r) e → is_in p (last ∷ r) ≡ true
     → ((q : ℕ) → Has q (chain (last ∷ r) last.number) → Has p (chain (last ∷ r) q) → e.parent ≡ Some q → ⊥)
     → is_in p (chain (e ∷ last ∷ r) e.number) ≡ false
 outside_next p last e r next there barred =

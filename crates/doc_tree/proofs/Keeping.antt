@@ -82,7 +82,7 @@ record IsStretch (es : List Element) (n : ℕ) : Type 0 where
   all_within : list_all (λ e. is_inclusive_descendant es n e.number) middle ≡ true
   none_after : list_any (λ e. is_inclusive_descendant es n e.number) after ≡ false
 
--- the first elements that are within, behind n
+-- the first elements that are within, after n
 record IsRun (es : List Element) (n : ℕ) (rest : List Element) : Type 0 where
   inside : List Element
   after : List Element

@@ -10,7 +10,7 @@ use Rattle.doc_tree.proofs.Lists.{is_some-position}
 use Rattle.std.proofs.lemmas.Map.Steps.{length-le_from_distinct_below}
 use Rattle.doc_tree.specs.Element.{Element, is_in, position_of, subtree_end_of, subtree_of}
 use Rattle.doc_tree.specs.declared.node.Node.{Node}
-use Rattle.doc_tree.specs.Marks.{Kept, Mark, Open, Close, code, opened, has, slots_of, marks_until, slots_in, rank_in, with_ranks, with_order, with_positions, document_of, element_at, depth_at, is_live, no_element, AreDifferent, AreRanks, IsAt, IsSound, IsSlotOf, Leads}
+use Rattle.doc_tree.specs.Marks.{Kept, Mark, Open, Close, code, opened, has, slots_of, marks_until, slots_in, rank_in, with_ranks, with_order, with_positions, document_of, element_at, depth_at, is_live, no_element, AreDifferent, AreRanks, IsAt, AreMarksOfTree, IsSlotOf, Leads}
 use Rattle.doc_tree.proofs.Numbers.{has-self, at-set_same, at-set_other, different-before}
 use Rattle.doc_tree.proofs.Links.{leads-split, leads-fresh, until-leads}
 use Rattle.doc_tree.proofs.Tours.{even, odd, half, opened-append, different-opened, slots_of-codes}
@@ -90,7 +90,7 @@ unfolding IsDistinct
 distinct [] d = tt
 distinct (x ∷ xs) d = (none-equal x xs d.0, distinct xs d.1)
 
-module _ (k : Kept) (sound : IsSound k) where
+module _ (k : Kept) (sound : AreMarksOfTree k) where
   abbrev el : ℕ → Element
   el = element_at k.slots
 
@@ -171,7 +171,7 @@ module _ (k : Kept) (sound : IsSound k) where
       ]
 
   -- what is kept with positions counted is sound
-  pub counted-sound : IsSound (with_positions k)
+  pub counted-sound : AreMarksOfTree (with_positions k)
   counted-sound = record {
     marks = sound.marks;
     tour = record {

@@ -11,7 +11,7 @@ use Rattle.doc_tree.specs.Element.{Element}
 use Rattle.doc_tree.specs.Shape.{is_bounded}
 use Rattle.doc_tree.specs.declared.node.Node.{Node}
 use Rattle.doc_tree.specs.declared.limits.TheConstants.{MAX_DEPTH, MAX_ELEMENTS, MAX_SLOTS}
-use Rattle.doc_tree.specs.Marks.{Kept, Mark, Open, Close, code, opened, has, document_of, element_at, depth_at, is_live, number_above, no_element, with_node, AreDifferent, IsAt, IsBelow, IsSound, IsSized, IsFit, Nests, Leads}
+use Rattle.doc_tree.specs.Marks.{Kept, Mark, Open, Close, code, opened, has, document_of, element_at, depth_at, is_live, number_above, no_element, with_node, AreDifferent, IsAt, IsBelow, AreMarksOfTree, IsSized, IsFit, Nests, Leads}
 use Rattle.doc_tree.proofs.Numbers.{has-append, has-self, at-append, at-seam, below-at, below-set, below-weaker, different-put, absent-from}
 use Rattle.doc_tree.proofs.Links.{first_mark, first_mark-nil, first_mark-cons, splice, leads-split, leads-fresh, target_within}
 use Rattle.doc_tree.proofs.Tours.{opened-append, no_code, nests-join, nests-same, number_above-same, elements-same, rooted-same, open_was_opened, IsSameAt}
@@ -62,7 +62,7 @@ pub record IsNew (k : Kept) (x : Node) : Type 0 where
   pub shallow : x.depth ≤ MAX_DEPTH
   pub bounded : is_bounded x.element ≡ true
 
-module _ (k : Kept) (sound : IsSound k) (x : Node) (m : ℕ) (gap : IsGap k sound.marks x m) (new : IsNew k x) where
+module _ (k : Kept) (sound : AreMarksOfTree k) (x : Node) (m : ℕ) (gap : IsGap k sound.marks x m) (new : IsNew k x) where
   abbrev el : ℕ → Element
   el = element_at k.slots
 
@@ -267,7 +267,7 @@ module _ (k : Kept) (sound : IsSound k) (x : Node) (m : ℕ) (gap : IsGap k soun
   different-put-last = different-put k.keys [] x.element.number (subst AreDifferent (sym (append-nil k.keys)) sound.different) (ap (has x.element.number) (append-nil k.keys) ∙ new.unused)
 
   -- what is kept with the node is sound
-  pub put-sound : IsSound k'
+  pub put-sound : AreMarksOfTree k'
   put-sound = record {
     marks = marks';
     tour = record {

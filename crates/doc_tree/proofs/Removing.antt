@@ -11,7 +11,7 @@ use Rattle.doc_tree.specs.Shape.{is_bounded}
 use Rattle.doc_tree.specs.Change.{without}
 use Rattle.doc_tree.specs.declared.node.Node.{Node}
 use Rattle.doc_tree.specs.declared.limits.TheConstants.{MAX_DEPTH}
-use Rattle.doc_tree.specs.Marks.{Kept, Mark, Open, Close, code, opened, has, slots_of, slots_below, cleared, document_of, element_at, depth_at, is_live, no_element, without_slot, AreDifferent, IsAt, IsSound, IsSized, IsFit, Nests, Leads}
+use Rattle.doc_tree.specs.Marks.{Kept, Mark, Open, Close, code, opened, has, slots_of, slots_below, cleared, document_of, element_at, depth_at, is_live, no_element, without_slot, AreDifferent, IsAt, AreMarksOfTree, IsSized, IsFit, Nests, Leads}
 use Rattle.doc_tree.proofs.Numbers.{has-append, has-self, below-at, below-set, different-back, different-apart, different-cut}
 use Rattle.doc_tree.proofs.Links.{cut, leads-split, until-leads}
 use Rattle.doc_tree.proofs.Tours.{opened-append, slots_of-codes, no_code, different-opened, nests-join, nests-same, count-nests, elements-same, rooted-same, open_was_opened, IsSameAt, IsSpan}
@@ -67,7 +67,7 @@ module _ (el : ℕ → Element) (dep : ℕ → ℕ) where
       absurd (false≢true (sym (ap (λ (o : Option ℕ). is_some o) n.0.parent) ∙ (and_parts (is_some (el s).parent) _ all).0))
   no_second_root (Close s ∷ ms) n all = absurd n
 
-module _ (k : Kept) (sound : IsSound k) (s : ℕ) (live : is_live k.slots s ≡ true) where
+module _ (k : Kept) (sound : AreMarksOfTree k) (s : ℕ) (live : is_live k.slots s ≡ true) where
   abbrev el : ℕ → Element
   el = element_at k.slots
 
@@ -233,7 +233,7 @@ module _ (k : Kept) (sound : IsSound k) (s : ℕ) (live : is_live k.slots s ≡ 
       }
 
   -- what is kept without them is sound
-  pub cut-sound : IsSound k'
+  pub cut-sound : AreMarksOfTree k'
   cut-sound = record {
     marks = sp.before ++ sp.after;
     tour = record {

@@ -11,7 +11,7 @@ use Rattle.doc_tree.specs.Element.{Element, Document, is_in, is_used, depth_of, 
 use Rattle.doc_tree.specs.Shape.{IsTree, IsWithinLimits, is_bounded}
 use Rattle.doc_tree.specs.declared.node.Node.{Node}
 use Rattle.doc_tree.specs.declared.limits.TheConstants.{MAX_DEPTH}
-use Rattle.doc_tree.specs.Marks.{Kept, Mark, code, opened, has, slots_of, slots_in, marks_until, document_of, element_at, depth_at, empty_kept, is_live, no_element, IsAt, IsSound, IsSlotOf, IsNodeOf}
+use Rattle.doc_tree.specs.Marks.{Kept, Mark, code, opened, has, slots_of, slots_in, marks_until, document_of, element_at, depth_at, empty_kept, is_live, no_element, IsAt, AreMarksOfTree, IsSlotOf, IsNodeOf}
 use Rattle.doc_tree.proofs.Numbers.{has-self, at-has, at-seam, at-same, different-index}
 use Rattle.doc_tree.proofs.Lists.{splits_at_position, find-none}
 use Rattle.doc_tree.proofs.Links.{until-leads}
@@ -50,7 +50,7 @@ pub all-slots : (el : ℕ → Element) (p : Element → Bool) (ss : List ℕ) �
 all-slots el p [] f = refl
 all-slots el p (s ∷ ss) f = and_from _ _ (f s (has-self s ss)) (all-slots el p ss (λ t h. f t (or_right _ _ h)))
 
-module _ (k : Kept) (sound : IsSound k) where
+module _ (k : Kept) (sound : AreMarksOfTree k) where
   abbrev el : ℕ → Element
   el = element_at k.slots
 
@@ -183,7 +183,7 @@ if_copied None P f = tt
 if_copied (Some b) P f = f b.now refl
 
 -- the element of a slot is in the tree
-pub slot-there : (k : Kept) (sound : IsSound k) (n s : ℕ) → IsSlotOf k n s → is_in n (document_of k).elements ≡ true
+pub slot-there : (k : Kept) (sound : AreMarksOfTree k) (n s : ℕ) → IsSlotOf k n s → is_in n (document_of k).elements ≡ true
 slot-there k sound n s of =
     subst (λ (m : ℕ). is_in m (document_of k).elements ≡ true) of.number (ap (is_in (element_at k.slots s).number) (elements-sound k sound) ∙ is_in-slot (element_at k.slots) s (opened sound.marks) (live-opened k sound s of.live))
 
@@ -192,7 +192,7 @@ empty_list : (es : List Element) → length es ≡ 0 → es ≡ []
 empty_list [] h = refl
 empty_list (e ∷ es) h = absurd (omega arith)
 
-pub empty-sound : (k : Kept) (sound : IsSound k) (d : Document) → document_of k ≡ d → (eqb k.len 0 ≡ true → d.elements ≡ []) × (d.elements ≡ [] → eqb k.len 0 ≡ true)
+pub empty-sound : (k : Kept) (sound : AreMarksOfTree k) (d : Document) → document_of k ≡ d → (eqb k.len 0 ≡ true → d.elements ≡ []) × (d.elements ≡ [] → eqb k.len 0 ≡ true)
 empty-sound k sound d is =
     let count : length d.elements ≡ k.len = ap (λ (x : Document). length x.elements) (sym is) ∙ length-sound k sound in
     (λ none. empty_list d.elements (count ∙ eqb-true _ _ none), λ empty. eq-eqb _ _ (sym count ∙ ap length empty))
@@ -202,7 +202,7 @@ pub not-found : (n : ℕ) (es : List Element) → is_in n es ≡ false → eleme
 not-found n es none = find-none (λ (e : Element). eqb e.number n) es none
 
 -- the empty tree
-pub empty_kept-sound : IsSound empty_kept
+pub empty_kept-sound : AreMarksOfTree empty_kept
 empty_kept-sound = record {
   marks = [];
   tour = record {
@@ -221,7 +221,7 @@ empty_kept-sound = record {
 }
 
 -- a slot is found exactly where the element is there
-pub slot-test : (k : Kept) (sound : IsSound k) (n : ℕ) (o : Option ℕ) → IfSome o (IsSlotOf k n) → IfNone o (is_in n (document_of k).elements ≡ false) → is_some o ≡ is_in n (document_of k).elements
+pub slot-test : (k : Kept) (sound : AreMarksOfTree k) (n : ℕ) (o : Option ℕ) → IfSome o (IsSlotOf k n) → IfNone o (is_in n (document_of k).elements ≡ false) → is_some o ≡ is_in n (document_of k).elements
 slot-test k sound n None found absent = sym absent
 slot-test k sound n (Some s) found absent = sym (slot-there k sound n s found)
 

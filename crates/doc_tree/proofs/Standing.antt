@@ -94,7 +94,7 @@ module _ (el : ℕ → Element) (dep : ℕ → ℕ) where
   IsRooted r [] = Unit {0}
   IsRooted r (s ∷ ss) = ((r ≡ []) ⊎ (is_some (el s).parent ≡ true)) × IsRooted (el s ∷ r) ss
 
-  -- behind r, the elements that the marks open are in tree order, and the open slots stand
+  -- after r, the elements that the marks open are in tree order, and the open slots stand
   pub record IsWalked (r : List Element) (ms : List Mark) (end : List ℕ) : Type 0 where
     pub grown : IsGrown r (map el (opened ms))
     pub standing : IsStanding (reversed_onto (map el (opened ms)) r) end

@@ -5,15 +5,15 @@ use Rattle.std.specs.List.{list_any, filter, position}
 use Rattle.std.proofs.lemmas.Bool.{cases_Bool, cases_order, eq-eqb, or_from, or_left, or_right, or_parts, false≢true}
 use Rattle.std.proofs.lemmas.List.Folds.{list_any-append}
 use Rattle.doc_tree.specs.Element.{Element, Document, is_in, is_used, is_inclusive_descendant, chain, reversed_onto, inclusive_ancestors, position_of}
-use Rattle.doc_tree.specs.Shape.{Follows, IsNext, IsGrown}
+use Rattle.doc_tree.specs.Shape.{Follows, MayComeNext, IsGrown}
 use Rattle.doc_tree.specs.Change.{EndsSubtree, IsAdded, IsInserted, IsLastPlace, new_element}
 use Rattle.doc_tree.proofs.Chains.{Differ, chain-here, chain-past_all, is_in-chain}
 use Rattle.doc_tree.proofs.Growth.{onto-append, is_in-onto_kept, is_in-onto_front, is_in-onto_there, grown-front, grown-back, differ-onto, later_differ, chain-stays, there_itself, parent_there, outside_rest, NoneWithin}
 use Rattle.doc_tree.proofs.Lists.{same_parts, position-split}
 
--- an element of a tree follows those before it, and the tree goes on behind it
+-- an element of a tree follows those before it, and the tree goes on after it
 record IsMet (es before after : List Element) (e : Element) : Type 0 where
-  next : IsNext (reversed_onto before []) e
+  next : MayComeNext (reversed_onto before []) e
   rest : IsGrown (e ∷ reversed_onto before []) after
   differ : Differ (e ∷ reversed_onto before [])
   all : reversed_onto es [] ≡ reversed_onto after (e ∷ reversed_onto before [])

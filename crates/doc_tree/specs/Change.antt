@@ -19,7 +19,7 @@ pub record EndsSubtree (p : ℕ) (before after : List Element) : Type 0 where
   pub within : IsTrue (is_inclusive_descendant (before ++ after) p last.number)
   pub none_after : list_any (λ e. is_inclusive_descendant (before ++ after) p e.number) after ≡ false
 
--- between `before` and `after` is the place of a new last child of the parent: right behind its subtree; a root stands alone
+-- between `before` and `after` is the place of a new last child of the parent: right after its subtree; a root stands alone
 abbrev pub IsLastPlace : Option ℕ → List Element → List Element → Type 0
 IsLastPlace None before after = (before ≡ []) × (after ≡ [])
 IsLastPlace (Some p) before after = EndsSubtree p before after

@@ -67,7 +67,7 @@ is_inclusive_descendant es a n = is_in a (inclusive_ancestors es n)
 abbrev pub subtree_of : List Element → ℕ → List Element
 subtree_of es a = filter (λ e. is_inclusive_descendant es a e.number) es
 
--- the place behind the subtree of element n
+-- the place after the subtree of element n
 abbrev pub subtree_end_of : ℕ → Document → Option ℕ
 subtree_end_of n d = option_map (λ at. at + length (subtree_of d.elements n)) (position_of n d)
 

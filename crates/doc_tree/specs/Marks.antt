@@ -167,7 +167,7 @@ pub record IsTour (k : Kept) (marks : List Mark) : Type 0 where
   pub counted : k.fresh ≡ true → IsCounted k marks
 
 -- what a tree keeps is sound
-pub record IsSound (k : Kept) : Type 0 where
+pub record AreMarksOfTree (k : Kept) : Type 0 where
   pub marks : List Mark
   pub tour : IsTour k marks
   pub sized : IsSized k

@@ -4,20 +4,20 @@ use Rattle.std.specs.List.{list_all}
 use Rattle.doc_tree.specs.declared.limits.TheConstants.{MAX_CLASSES, MAX_DEPTH, MAX_ELEMENTS, MAX_STYLE_BYTES}
 use Rattle.doc_tree.specs.Element.{Element, Document, is_in, is_used, chain, depth_of}
 
--- behind `earlier`, the last first, may stand a child of the last of them or of one of its ancestors; the first element is the root
+-- after `earlier`, the last first, may stand a child of the last of them or of one of its ancestors; the first element is the root
 abbrev pub Follows : List Element → Option ℕ → Type 0
 Follows [] parent = parent ≡ None
 Follows (last ∷ earlier) parent = IsSomeAnd parent (λ p. IsTrue (is_in p (chain (last ∷ earlier) last.number)))
 
 -- e may be the next element: its number is new, and its parent is one that it may follow
-pub record IsNext (earlier : List Element) (e : Element) : Type 0 where
+pub record MayComeNext (earlier : List Element) (e : Element) : Type 0 where
   pub differs : is_in e.number earlier ≡ false
   pub follows : Follows earlier e.parent
 
 -- the elements es may follow `earlier`, one after another
 abbrev pub IsGrown : List Element → List Element → Type 0
 IsGrown earlier [] = ⊤
-IsGrown earlier (e ∷ es) = IsNext earlier e × IsGrown (e ∷ earlier) es
+IsGrown earlier (e ∷ es) = MayComeNext earlier e × IsGrown (e ∷ earlier) es
 
 -- the elements are those of one tree in tree order, and the number of each is a used one
 pub record IsTree (d : Document) : Type 0 where

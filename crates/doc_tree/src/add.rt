@@ -5,7 +5,7 @@ ghost use Rattle.std.specs.List.{list_any};
 ghost use Rattle.doc_tree.specs.Element.{is_in};
 ghost use Rattle.doc_tree.specs.Change.{new_element, IsAdded, IsInserted};
 ghost use Rattle.doc_tree.specs.Fault.{Answers, fault_at_depth, fault_of_add, fault_of_insert, has_parent};
-ghost use Rattle.doc_tree.specs.Marks.{depth_at, document_of, element_at, has, is_live, kept_of, with_node, HasRoom, IsPlaceBefore, IsPlaceBelow, IsSized, IsSound};
+ghost use Rattle.doc_tree.specs.Marks.{depth_at, document_of, element_at, has, is_live, kept_of, with_node, HasRoom, IsPlaceBefore, IsPlaceBelow, IsSized, AreMarksOfTree};
 
 use crate::element::Element;
 use crate::fault::TreeFault;
@@ -25,7 +25,7 @@ pub struct Place {
 
 /// The place of a last child of the parent; `None` where one is named that isn't in the tree.
 fn place_below(nodes: &Nodes, parent: Option<u32>) -> Option<Place>
-    requires { IsSound (kept_of nodes.now) }
+    requires { AreMarksOfTree (kept_of nodes.now) }
     ensures place { IfSome result (λ place. IsPlaceBelow (kept_of nodes.now) parent place.mark place.parent place.depth) }
     ensures absent { IfNone result (has_parent parent (document_of (kept_of nodes.now)) ≡ false) }
 {
@@ -48,7 +48,7 @@ fn place_below(nodes: &Nodes, parent: Option<u32>) -> Option<Place>
 
 /// The place directly before the sibling; `None` where it isn't in the tree.
 fn place_before(nodes: &Nodes, sibling: u32) -> Option<Place>
-    requires { IsSound (kept_of nodes.now) }
+    requires { AreMarksOfTree (kept_of nodes.now) }
     ensures place { IfSome result (λ place. IsPlaceBefore (kept_of nodes.now) sibling place.mark place.parent place.depth) }
     ensures absent { IfNone result (is_in sibling (document_of (kept_of nodes.now)).elements ≡ false) }
 {
@@ -64,7 +64,7 @@ fn place_before(nodes: &Nodes, sibling: u32) -> Option<Place>
 
 /// How deep the element in the slot lies.
 fn depth_in(nodes: &Nodes, slot: usize) -> u32
-    requires sound { IsSound (kept_of nodes.now) }
+    requires sound { AreMarksOfTree (kept_of nodes.now) }
     requires within { slot < length nodes.now.slots.items }
     requires live { is_live nodes.now.slots.items slot ≡ true }
     ensures depth { result ≡ depth_at nodes.now.slots.items slot }
@@ -89,7 +89,7 @@ fn parent_in(nodes: &Nodes, slot: usize) -> Option<u32>
 
 /// Whether the number was used before.
 fn is_used(nodes: &Nodes, n: u32) -> bool
-    requires { IsSound (kept_of nodes.now) }
+    requires { AreMarksOfTree (kept_of nodes.now) }
     ensures { result ≡ has n nodes.now.used.keys }
 {
     nodes.used.contains(&n)
@@ -97,7 +97,7 @@ fn is_used(nodes: &Nodes, n: u32) -> bool
 
 /// The first fault of a new element `n` at this depth.
 fn fault_at(nodes: &Nodes, n: u32, depth: u32, is_root: bool) -> Option<TreeFault>
-    requires { IsSound (kept_of nodes.now) }
+    requires { AreMarksOfTree (kept_of nodes.now) }
     ensures { result ≡ fault_at_depth (document_of (kept_of nodes.now)) n depth is_root }
 {
     if is_used(nodes, n) {
@@ -164,7 +164,7 @@ fn add_at(
     place: Place,
     tag: &str,
 ) -> Result<(), TreeFault>
-    requires sound { IsSound (kept_of nodes.old) }
+    requires sound { AreMarksOfTree (kept_of nodes.old) }
     requires within { place.mark < length nodes.old.previous.items }
     ensures fault { Answers (fault_at_depth (document_of (kept_of nodes.old)) n place.depth (is_none place.parent)) result }
     ensures ok { OnOk result (kept_of nodes.new ≡ with_node (kept_of nodes.old) n (record { element = new_element n place.parent tag.now; depth = place.depth }) place.mark) }
@@ -199,8 +199,8 @@ pub fn add_node(
     parent: Option<u32>,
     tag: &str,
 ) -> Result<(), TreeFault>
-    requires { IsSound (kept_of nodes.old) }
-    ensures sound { IsSound (kept_of nodes.new) }
+    requires { AreMarksOfTree (kept_of nodes.old) }
+    ensures sound { AreMarksOfTree (kept_of nodes.new) }
     ensures fault { Answers (fault_of_add (document_of (kept_of nodes.old)) n parent) result }
     ensures ok { OnOk result (IsAdded (document_of (kept_of nodes.old)) (document_of (kept_of nodes.new)) (new_element n parent tag.now)) }
     ensures err { OnErr result (kept_of nodes.new ≡ kept_of nodes.old) }
@@ -219,8 +219,8 @@ pub fn insert_node(
     sibling: u32,
     tag: &str,
 ) -> Result<(), TreeFault>
-    requires { IsSound (kept_of nodes.old) }
-    ensures sound { IsSound (kept_of nodes.new) }
+    requires { AreMarksOfTree (kept_of nodes.old) }
+    ensures sound { AreMarksOfTree (kept_of nodes.new) }
     ensures fault { Answers (fault_of_insert (document_of (kept_of nodes.old)) n sibling) result }
     ensures ok { OnOk result (IsInserted (document_of (kept_of nodes.old)) (document_of (kept_of nodes.new)) n sibling tag.now) }
     ensures err { OnErr result (kept_of nodes.new ≡ kept_of nodes.old) }

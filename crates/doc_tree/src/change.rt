@@ -5,7 +5,7 @@ ghost use Rattle.std.specs.String.{string_bytes};
 ghost use Rattle.std.specs.List.{list_any};
 ghost use Rattle.doc_tree.specs.Change.{each_once, with_classes, with_id, with_style};
 ghost use Rattle.doc_tree.specs.Fault.{Answers, fault_of_change, fault_of_classes};
-ghost use Rattle.doc_tree.specs.Marks.{document_of, kept_of, with_element, IsSound};
+ghost use Rattle.doc_tree.specs.Marks.{document_of, kept_of, with_element, AreMarksOfTree};
 
 use crate::fault::TreeFault;
 use crate::limits::{MAX_CLASSES, MAX_STYLE_BYTES};
@@ -45,9 +45,9 @@ fn put_classes(nodes: &mut Nodes, slot: usize, names: Vec<String>)
 
 /// Replaces the style text of element `n`.
 pub fn set_style_of(alloc: Global, nodes: &mut Nodes, n: u32, text: &str) -> Result<(), TreeFault>
-    requires sound { IsSound (kept_of nodes.old) }
+    requires sound { AreMarksOfTree (kept_of nodes.old) }
     requires short { length text.now ≤ MAX_STYLE_BYTES }
-    ensures sound { IsSound (kept_of nodes.new) }
+    ensures sound { AreMarksOfTree (kept_of nodes.new) }
     ensures fault { Answers (fault_of_change (document_of (kept_of nodes.old)).elements n) result }
     ensures ok { OnOk result (document_of (kept_of nodes.new) ≡ with_style (document_of (kept_of nodes.old)) n text.now) }
     ensures err { OnErr result (kept_of nodes.new ≡ kept_of nodes.old) }
@@ -79,8 +79,8 @@ pub fn set_id_of(
     n: u32,
     id: Option<&str>,
 ) -> Result<(), TreeFault>
-    requires { IsSound (kept_of nodes.old) }
-    ensures sound { IsSound (kept_of nodes.new) }
+    requires { AreMarksOfTree (kept_of nodes.old) }
+    ensures sound { AreMarksOfTree (kept_of nodes.new) }
     ensures fault { Answers (fault_of_change (document_of (kept_of nodes.old)).elements n) result }
     ensures ok { OnOk result (document_of (kept_of nodes.new) ≡ with_id (document_of (kept_of nodes.old)) n (option_map (λ text. text.now) id.entry)) }
     ensures err { OnErr result (kept_of nodes.new ≡ kept_of nodes.old) }
@@ -140,8 +140,8 @@ pub fn set_classes_of(
     n: u32,
     names: &[&str],
 ) -> Result<(), TreeFault>
-    requires { IsSound (kept_of nodes.old) }
-    ensures sound { IsSound (kept_of nodes.new) }
+    requires { AreMarksOfTree (kept_of nodes.old) }
+    ensures sound { AreMarksOfTree (kept_of nodes.new) }
     ensures fault { Answers (fault_of_classes (document_of (kept_of nodes.old)).elements n (map (λ text. text.now) names.now)) result }
     ensures ok { OnOk result (document_of (kept_of nodes.new) ≡ with_classes (document_of (kept_of nodes.old)) n (map (λ text. text.now) names.now)) }
     ensures err { OnErr result (kept_of nodes.new ≡ kept_of nodes.old) }

@@ -38,7 +38,7 @@ pub fn one_root()
         → e.parent ≡ None → before ≡ [] }
 {}
 
-/// A subtree stands together: behind the first element that has left it, none is in it.
+/// A subtree stands together: after the first element that has left it, none is in it.
 pub fn subtrees_stand_together()
     ensures { (d : Document) (before after : List Element) (e : Element) (a : ℕ)
         → IsTree d → d.elements ≡ before ++ e ∷ after

@@ -6,7 +6,7 @@ use indexmap::IndexSet;
 /// The number of the mark before all others.
 pub const START: usize = 0;
 
-/// The number of the mark behind all others.
+/// The number of the mark after all others.
 pub const END: usize = 1;
 
 /// What a tree keeps. A number's place among the used ones is its slot, which no other number ever gets.
@@ -18,7 +18,7 @@ pub struct Nodes {
     pub used: IndexSet<u32>,
     /// The nodes by slots; `None` where the element was removed.
     pub slots: Vec<Option<Node>>,
-    /// The mark behind each mark.
+    /// The mark after each mark.
     pub next: Vec<u32>,
     /// The mark before each mark.
     pub previous: Vec<u32>,

@@ -3,7 +3,7 @@
 ghost use Rattle.std.specs.Prelude.{◌≡◌, ◌+◌, ◌-◌, ◌*◌, ◌/◌, ◌%◌, ◌^◌, ◌<◌, ◌≤◌, ◌==◌, length, nat_lt, if◌then◌else◌, IsTrue, IfSome, slice_index_or, slice_set, slice_get, option_copied, option_map, None, true};
 ghost use Rattle.std.specs.List.{list_all};
 ghost use Rattle.doc_tree.specs.Element.{position_of, subtree_end_of};
-ghost use Rattle.doc_tree.specs.Marks.{document_of, kept_of, marks_until, rank_in, slots_in, slots_of, with_order, with_ranks, IsSound};
+ghost use Rattle.doc_tree.specs.Marks.{document_of, kept_of, marks_until, rank_in, slots_in, slots_of, with_order, with_ranks, AreMarksOfTree};
 
 use crate::element::Element;
 use crate::nodes::{END, Nodes, START};
@@ -98,8 +98,8 @@ fn put_ranks(next: &[u32], ranks: &mut Vec<u32>, order: &mut Vec<u32>, first: us
 
 /// Counts how many elements are opened before each mark, and keeps the slots in tree order.
 pub fn count_positions(nodes: &mut Nodes)
-    requires { IsSound (kept_of nodes.old) }
-    ensures sound { IsSound (kept_of nodes.new) }
+    requires { AreMarksOfTree (kept_of nodes.old) }
+    ensures sound { AreMarksOfTree (kept_of nodes.new) }
     ensures document { document_of (kept_of nodes.new) ≡ document_of (kept_of nodes.old) }
     ensures fresh { nodes.new.fresh ≡ true }
 {
@@ -111,7 +111,7 @@ pub fn count_positions(nodes: &mut Nodes)
 
 /// How many elements are opened before the mark.
 fn rank_of(nodes: &Nodes, mark: usize) -> usize
-    requires sound { IsSound (kept_of nodes.now) }
+    requires sound { AreMarksOfTree (kept_of nodes.now) }
     requires within { mark < length nodes.now.ranks.items }
     ensures { result ≡ rank_in (kept_of nodes.now) mark }
 {
@@ -123,7 +123,7 @@ fn rank_of(nodes: &Nodes, mark: usize) -> usize
 
 /// The place of element `n` in tree order.
 pub fn position_in(nodes: &Nodes, n: u32) -> Option<u32>
-    requires { IsSound (kept_of nodes.now) }
+    requires { AreMarksOfTree (kept_of nodes.now) }
     ensures value { result ≡ position_of n (document_of (kept_of nodes.now)) }
     ensures small { IfSome result (λ at. at < length (document_of (kept_of nodes.now)).elements) }
 {
@@ -133,9 +133,9 @@ pub fn position_in(nodes: &Nodes, n: u32) -> Option<u32>
     }
 }
 
-/// The place behind the subtree of element `n`.
+/// The place after the subtree of element `n`.
 pub fn subtree_end_in(nodes: &Nodes, n: u32) -> Option<u32>
-    requires { IsSound (kept_of nodes.now) }
+    requires { AreMarksOfTree (kept_of nodes.now) }
     ensures { result ≡ subtree_end_of n (document_of (kept_of nodes.now)) }
 {
     match slot_of(nodes, n) {
@@ -146,7 +146,7 @@ pub fn subtree_end_in(nodes: &Nodes, n: u32) -> Option<u32>
 
 /// The slot of the element at the place.
 fn slot_at(nodes: &Nodes, place: usize) -> Option<usize>
-    requires { IsSound (kept_of nodes.now) }
+    requires { AreMarksOfTree (kept_of nodes.now) }
     ensures { result ≡ slice_get (slots_in (kept_of nodes.now)) place }
 {
     if !nodes.fresh {
@@ -166,7 +166,7 @@ fn slot_at(nodes: &Nodes, place: usize) -> Option<usize>
 
 /// The element at the place in tree order.
 pub fn element_in_order(nodes: &Nodes, place: usize) -> Option<&Element>
-    requires { IsSound (kept_of nodes.now) }
+    requires { AreMarksOfTree (kept_of nodes.now) }
     ensures { option_copied result ≡ slice_get (document_of (kept_of nodes.now)).elements place }
 {
     match slot_at(nodes, place) {

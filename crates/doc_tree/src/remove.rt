@@ -5,7 +5,7 @@ ghost use Rattle.std.specs.List.{list_all};
 ghost use Rattle.doc_tree.specs.Element.{numbers_of, subtree_of};
 ghost use Rattle.doc_tree.specs.Change.{without};
 ghost use Rattle.doc_tree.specs.Fault.{Answers, fault_of_change};
-ghost use Rattle.doc_tree.specs.Marks.{cleared, document_of, is_live, kept_of, marks_until, slots_below, slots_of, without_slot, IsSound};
+ghost use Rattle.doc_tree.specs.Marks.{cleared, document_of, is_live, kept_of, marks_until, slots_below, slots_of, without_slot, AreMarksOfTree};
 
 use crate::fault::TreeFault;
 use crate::node::Node;
@@ -76,7 +76,7 @@ fn clear(nodes: &mut Vec<Option<Node>>, slots: &[u32])
 
 /// Takes the marks of the slot, and those between them, out of the list.
 fn cut(nodes: &mut Nodes, slot: usize, slots: &[u32])
-    requires sound { IsSound (kept_of nodes.old) }
+    requires sound { AreMarksOfTree (kept_of nodes.old) }
     requires within { slot < length nodes.old.slots.items }
     requires live { is_live nodes.old.slots.items slot ≡ true }
     requires slots { slots.now ≡ slots_below (kept_of nodes.old) slot }
@@ -93,7 +93,7 @@ fn cut(nodes: &mut Nodes, slot: usize, slots: &[u32])
 
 /// The slots of the element in this slot and of those below it, in tree order.
 fn slots_from(alloc: Global, nodes: &Nodes, slot: usize) -> Result<Vec<u32>, AllocError>
-    requires sound { IsSound (kept_of nodes.now) }
+    requires sound { AreMarksOfTree (kept_of nodes.now) }
     requires within { slot < length nodes.now.slots.items }
     ensures { IfOk result (λ slots. slots.items ≡ slots_below (kept_of nodes.now) slot) }
 {
@@ -109,8 +109,8 @@ fn slots_from(alloc: Global, nodes: &Nodes, slot: usize) -> Result<Vec<u32>, All
 
 /// Removes element `n` and all below it; answers their numbers in tree order.
 pub fn remove_nodes(alloc: Global, nodes: &mut Nodes, n: u32) -> Result<Vec<u32>, TreeFault>
-    requires { IsSound (kept_of nodes.old) }
-    ensures sound { IsSound (kept_of nodes.new) }
+    requires { AreMarksOfTree (kept_of nodes.old) }
+    ensures sound { AreMarksOfTree (kept_of nodes.new) }
     ensures fault { Answers (fault_of_change (document_of (kept_of nodes.old)).elements n) result }
     ensures numbers { IfOk result (λ numbers. numbers.items ≡ numbers_of (subtree_of (document_of (kept_of nodes.old)).elements n)) }
     ensures ok { OnOk result (document_of (kept_of nodes.new) ≡ without (document_of (kept_of nodes.old)) n) }

@@ -2,7 +2,7 @@
 
 ghost use Rattle.std.specs.Prelude.{◌≡◌, ◌+◌, ◌-◌, ◌*◌, ◌/◌, ◌<◌, IfOk, IfSome, IfNone, false};
 ghost use Rattle.doc_tree.specs.Element.{is_in};
-ghost use Rattle.doc_tree.specs.Marks.{document_of, empty_kept, kept_of, IsNodeOf, IsSlotOf, IsSound};
+ghost use Rattle.doc_tree.specs.Marks.{document_of, empty_kept, kept_of, IsNodeOf, IsSlotOf, AreMarksOfTree};
 
 use crate::limits::MAX_SLOTS;
 use crate::node::Node;
@@ -51,7 +51,7 @@ pub fn empty_nodes(alloc: Global) -> Result<Nodes, AllocError>
 
 /// The slot of element `n`, if it is in the tree.
 pub fn slot_of(nodes: &Nodes, n: u32) -> Option<usize>
-    requires { IsSound (kept_of nodes.now) }
+    requires { AreMarksOfTree (kept_of nodes.now) }
     ensures found { IfSome result (IsSlotOf (kept_of nodes.now) n) }
     ensures absent { IfNone result (is_in n (document_of (kept_of nodes.now)).elements ≡ false) }
 {
@@ -66,7 +66,7 @@ pub fn slot_of(nodes: &Nodes, n: u32) -> Option<usize>
 
 /// The node of element `n`, if it is in the tree.
 pub fn node_of(nodes: &Nodes, n: u32) -> Option<&Node>
-    requires { IsSound (kept_of nodes.now) }
+    requires { AreMarksOfTree (kept_of nodes.now) }
     ensures found { IfSome result (λ x. IsNodeOf (document_of (kept_of nodes.now)) n x.now) }
     ensures absent { IfNone result (is_in n (document_of (kept_of nodes.now)).elements ≡ false) }
 {

@@ -34,11 +34,11 @@ impl Model for Tree {
 
     ghost Value = { Document };
 
-    ghost use Rattle.doc_tree.specs.Marks.{document_of, kept_of, IsSound};
+    ghost use Rattle.doc_tree.specs.Marks.{document_of, kept_of, AreMarksOfTree};
 
     ghost view = { λ t. document_of (kept_of t.nodes) };
 
-    ghost invariant = { λ t. IsSound (kept_of t.nodes) };
+    ghost invariant = { λ t. AreMarksOfTree (kept_of t.nodes) };
 }
 
 impl Tree {
@@ -218,7 +218,7 @@ impl Tree {
         position_in(&self.nodes, n)
     }
 
-    /// The place behind the subtree of element `n` in tree order: its next sibling, if it has one, stands there.
+    /// The place after the subtree of element `n` in tree order: its next sibling, if it has one, stands there.
     /// `None` where `n` isn't in the tree. One look-up after [`Tree::renumber`], else a walk.
     pub fn subtree_end(&self, n: u32) -> Option<u32>
         ensures { result ≡ subtree_end_of n self.now }

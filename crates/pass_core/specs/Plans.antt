@@ -5,8 +5,8 @@ use Rattle.std.specs.List.{list_any, find}
 use Rattle.pass_core.specs.declared.plan.Place.{Place}
 
 -- the place of the element
-abbrev pub place_of : List Place → ℕ → Option Place
-place_of places e = find (λ p. p.element == e) places
+abbrev pub planned_place : List Place → ℕ → Option Place
+planned_place places e = find (λ p. p.element == e) places
 
 -- no element has two places
 abbrev pub differ : List Place → Bool
@@ -19,13 +19,13 @@ parents_stand_before n [] = true
 parents_stand_before n (p ∷ ps) = option_map_or (λ i. nat_lt i n) p.parent true && parents_stand_before (n + 1) ps
 
 -- the place of the parent of place i
-abbrev pub parent_of : List Place → ℕ → Option ℕ
-parent_of places i = option_and_then (λ (p : Place). p.parent) (slice_get places i)
+abbrev pub parent_place : List Place → ℕ → Option ℕ
+parent_place places i = option_and_then (λ (p : Place). p.parent) (slice_get places i)
 
 -- place j is place i or lies below it, by at most so many parents
 abbrev pub is_below : List Place → ℕ → ℕ → ℕ → Bool
 is_below places zero i j = i == j
-is_below places (suc most) i j = i == j || option_map_or (is_below places most i) (parent_of places j) false
+is_below places (suc most) i j = i == j || option_map_or (is_below places most i) (parent_place places j) false
 
 -- of the places from j on, those before `end` are the ones that are place i or lie below it
 abbrev pub end_is_right : List Place → ℕ → ℕ → ℕ → List Place → Bool

@@ -2,7 +2,7 @@
 
 ghost use Rattle.std.specs.Prelude.{◌≡◌, ◌≢◌, ℕ, [], ◌∷◌, List, IsTrue};
 ghost use Rattle.pass_core.specs.Plans.{is_proper};
-ghost use Rattle.pass_core.specs.Passes.{after_events, are_allowed, are_distinct, element_of, have_entries, update_all, IsResult, LeaveSame, PassState};
+ghost use Rattle.pass_core.specs.Passes.{after_events, are_allowed, are_distinct, event_element, have_entries, update_all, IsResult, LeaveSame, PassState};
 ghost use Rattle.pass_core.specs.Work.{Meaning};
 ghost use Rattle.pass_core.specs.declared.event.CoreEvent.{CoreEvent};
 ghost use Rattle.pass_core.specs.declared.plan.Place.{Place};
@@ -16,7 +16,7 @@ pub fn one_result<E, D>()
 /// Two events of different elements, each of which may come first, leave the same entries and hand down the same,
 /// whichever comes first.
 pub fn events_commute<E, D>()
-    ensures { (m : Meaning E D) (places : List Place) (st : PassState E D) (a b : CoreEvent) → element_of a ≢ element_of b → IsTrue (are_allowed m places st (a ∷ b ∷ [])) → IsTrue (are_allowed m places st (b ∷ a ∷ [])) → LeaveSame (after_events m places st (a ∷ b ∷ [])) (after_events m places st (b ∷ a ∷ [])) }
+    ensures { (m : Meaning E D) (places : List Place) (st : PassState E D) (a b : CoreEvent) → event_element a ≢ event_element b → IsTrue (are_allowed m places st (a ∷ b ∷ [])) → IsTrue (are_allowed m places st (b ∷ a ∷ [])) → LeaveSame (after_events m places st (a ∷ b ∷ [])) (after_events m places st (b ∷ a ∷ [])) }
 {}
 
 /// Any two schedules that update the whole plan leave the same entries.

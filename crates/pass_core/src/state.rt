@@ -2,7 +2,7 @@
 
 ghost use Rattle.std.specs.Prelude.{◌≡◌, [], IfOk, IsTrue, OnOk, OnErr, option_copied};
 ghost use Rattle.pass_core.specs.Plans.{is_proper};
-ghost use Rattle.pass_core.specs.Passes.{after_event, after_events, are_allowed, are_distinct, have_entries, is_allowed, update_all, value_of, IsAfterSome, IsPass, IsPassOutcome, PassState};
+ghost use Rattle.pass_core.specs.Passes.{after_event, after_events, are_allowed, are_distinct, have_entries, is_allowed, update_all, value_for, IsAfterSome, IsPass, IsPassOutcome, PassState};
 
 use crate::event::CoreEvent;
 use crate::plan::Plan;
@@ -41,16 +41,16 @@ impl<W: TreeWork> CoreState<W> {
 
     /// The element's entry; `None` where it has none. Takes no memory.
     pub fn entry(&self, element: u32) -> Option<&W::Entry>
-        ensures { option_copied result ≡ value_of self.now.entries element }
+        ensures { option_copied result ≡ value_for self.now.entries element }
     {
-        values::value_of(self.entries.as_slice(), element)
+        values::value_for(self.entries.as_slice(), element)
     }
 
     /// What the element hands down; `None` where it isn't done. Takes no memory.
     pub fn down(&self, element: u32) -> Option<&W::Down>
-        ensures { option_copied result ≡ value_of self.now.done element }
+        ensures { option_copied result ≡ value_for self.now.done element }
     {
-        values::value_of(self.done.as_slice(), element)
+        values::value_for(self.done.as_slice(), element)
     }
 
     /// Carries out an event that may happen: an update notes its outcome, and a refused one changes nothing. Where

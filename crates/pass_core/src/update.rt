@@ -1,13 +1,13 @@
 //! The update of an element.
 
 ghost use Rattle.std.specs.Prelude.{◌≡◌, [], ◌∷◌, ◌++◌, IfOk, OnOk, OnErr, option_copied};
-ghost use Rattle.pass_core.specs.Plans.{place_of};
+ghost use Rattle.pass_core.specs.Plans.{planned_place};
 ghost use Rattle.pass_core.specs.Passes.{after_event, handed_to, outcome_at, state_of, with_outcome};
 
 use crate::event::CoreEvent;
 use crate::plan::Place;
 use crate::step::Step;
-use crate::values::{put_value, value_of};
+use crate::values::{put_value, value_for};
 use crate::work::TreeWork;
 use std::alloc::{AllocError, Global};
 
@@ -71,10 +71,10 @@ fn outcome_at<W: TreeWork>(
 ) -> Result<Option<Step<W::Entry, W::Down>>, AllocError>
     ensures { IfOk result (λ o. o ≡ outcome_at (W.meaning work.now) places.now (state_of entries.now done.now) element) }
 {
-    let Some(entry) = value_of(entries, element) else {
+    let Some(entry) = value_for(entries, element) else {
         return Ok(None);
     };
-    let Some(place) = place_of(places, element) else {
+    let Some(place) = planned_place(places, element) else {
         return Ok(None);
     };
     let Some(down) = handed_to(work, places, done, &place) else {
@@ -83,8 +83,8 @@ fn outcome_at<W: TreeWork>(
     Ok(Some(work.update(alloc, element, entry, &down)?))
 }
 
-fn place_of(places: &[Place], element: u32) -> Option<Place>
-    ensures { result ≡ place_of places.now element }
+fn planned_place(places: &[Place], element: u32) -> Option<Place>
+    ensures { result ≡ planned_place places.now element }
 {
     places
         .iter()
@@ -106,6 +106,6 @@ fn handed_to<W: TreeWork>(
     };
     match places.get(parent as usize) {
         None => None,
-        Some(above) => value_of(done, above.element).copied(),
+        Some(above) => value_for(done, above.element).copied(),
     }
 }

@@ -1,11 +1,11 @@
 //! Lists by elements.
 
 ghost use Rattle.std.specs.Prelude.{◌≡◌, option_copied};
-ghost use Rattle.pass_core.specs.Passes.{value_of, with_value, IsIndexOf};
+ghost use Rattle.pass_core.specs.Passes.{value_for, with_value, IsIndexOf};
 
 /// What stands for the element in the list.
-pub(crate) fn value_of<X>(values: &[(u32, X)], element: u32) -> Option<&X>
-    ensures { option_copied result ≡ value_of values.now element }
+pub(crate) fn value_for<X>(values: &[(u32, X)], element: u32) -> Option<&X>
+    ensures { option_copied result ≡ value_for values.now element }
 {
     for value in values {
         if value.0 == element {

@@ -2,7 +2,7 @@
 use Rattle.std.proofs.Common.{◌≡◌, refl, ap, subst, sym, ◌∙◌, List, ◌∷◌, [], ◌++◌, false, Option, Some, None, append_assoc}
 use Rattle.std.specs.Prelude.{option_map, option_to_list}
 use Rattle.std.specs.Option.{option_and_then}
-use Rattle.selectors_mini.specs.Compounds.{CompoundSelector, any_element, with_id, with_class, followed_by}
+use Rattle.selectors_mini.specs.Compounds.{CompoundSelector, any_element, compound_with_id, compound_with_class, followed_by}
 use Rattle.selectors_mini.specs.Parts.{SelectorPart, Word, Hash, Dot, Star, Greater}
 use Rattle.selectors_mini.specs.Spelling.{Continues, IsCompound, AreSpaces, IsCombinator, AreCompounds, IsSelector}
 use Rattle.selectors_mini.specs.Spelling as spelling
@@ -11,7 +11,7 @@ use Rattle.selectors_mini.specs.declared.combinator.Combinator.{Combinator}
 use Rattle.selectors_mini.specs.declared.combinator.Combinator.TheVariants.{Child, Descendant}
 use Rattle.selectors_mini.specs.declared.reader.Place.TheVariants.{Start, Inside, Point, Spaced, Below}
 
--- what is read behind a step that ends no compound
+-- what is read after a step that ends no compound
 none_ended : (o : Option (List CompoundSelector)) → option_map (λ cs. [] ++ cs) o ≡ o
 none_ended None = refl
 none_ended (Some cs) = refl
@@ -43,8 +43,8 @@ only_spaces c (spelling.some rest s) = none_ended (compounds_from Spaced c rest)
 continued : {c d : CompoundSelector} {front : List SelectorPart} (parts : List SelectorPart) → Continues c front d → compounds_from Inside c (front ++ parts) ≡ compounds_from Inside d parts
 continued parts (spelling.end c) = refl
 continued parts (spelling.class c d name rest on) =
-    none_ended (compounds_from Point c (Word name ∷ (rest ++ parts))) ∙ none_ended (compounds_from Inside (with_class c name) (rest ++ parts)) ∙ continued parts on
-continued parts (spelling.id c d name rest on) = none_ended (compounds_from Inside (with_id c name) (rest ++ parts)) ∙ continued parts on
+    none_ended (compounds_from Point c (Word name ∷ (rest ++ parts))) ∙ none_ended (compounds_from Inside (compound_with_class c name) (rest ++ parts)) ∙ continued parts on
+continued parts (spelling.id c d name rest on) = none_ended (compounds_from Inside (compound_with_id c name) (rest ++ parts)) ∙ continued parts on
 
 -- where a compound begins, which ends another
 abbrev from_begin : Option CompoundSelector → List SelectorPart → Option (List CompoundSelector)
@@ -61,7 +61,7 @@ compound_begins : (ended : Option CompoundSelector) {d : CompoundSelector} {fron
 compound_begins ended parts (spelling.type d name rest on) = ap (with_ended ended) (continued parts on)
 compound_begins ended parts (spelling.universal d rest on) = ap (with_ended ended) (continued parts on)
 compound_begins ended parts (spelling.class d name rest on) =
-    ap (with_ended ended) (none_ended (compounds_from Inside (with_class any_element name) (rest ++ parts)) ∙ continued parts on)
+    ap (with_ended ended) (none_ended (compounds_from Inside (compound_with_class any_element name) (rest ++ parts)) ∙ continued parts on)
 compound_begins ended parts (spelling.id d name rest on) = ap (with_ended ended) (continued parts on)
 
 -- the parts begin with one that begins a compound
@@ -93,12 +93,12 @@ combined : (c : CompoundSelector) {k : Combinator} {between : List SelectorPart}
     → compounds_from Inside c (between ++ parts) ≡ from_begin (Some (followed_by c k)) parts
 combined c parts (spelling.descendant rest s) begun = none_ended (compounds_from Spaced c (rest ++ parts)) ∙ spaces_spaced c parts s ∙ begun_spaced c begun
 combined c parts (spelling.child before after x y) begun =
-    ap (compounds_from Inside c) (append_assoc before (Greater ∷ after) parts) ∙ behind c (after ++ parts) x ∙ spaces_below c parts y ∙ begun_below c begun
+    ap (compounds_from Inside c) (append_assoc before (Greater ∷ after) parts) ∙ tail c (after ++ parts) x ∙ spaces_below c parts y ∙ begun_below c begun
   where
-    behind : (c : CompoundSelector) {before : List SelectorPart} (parts : List SelectorPart) → AreSpaces before
+    tail : (c : CompoundSelector) {before : List SelectorPart} (parts : List SelectorPart) → AreSpaces before
         → compounds_from Inside c (before ++ Greater ∷ parts) ≡ compounds_from Below c parts
-    behind c parts spelling.none = none_ended (compounds_from Below c parts)
-    behind c parts (spelling.some rest s) =
+    tail c parts spelling.none = none_ended (compounds_from Below c parts)
+    tail c parts (spelling.some rest s) =
         none_ended (compounds_from Spaced c (rest ++ Greater ∷ parts)) ∙ spaces_spaced c (Greater ∷ parts) s ∙ none_ended (compounds_from Below c parts)
 
 compounds_complete : (ended : Option CompoundSelector) {inside after : List SelectorPart} {cs : List CompoundSelector} → AreCompounds inside cs → AreSpaces after

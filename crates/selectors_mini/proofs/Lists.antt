@@ -66,7 +66,7 @@ each_of run runs ss is =
     let rest = map_some (λ ss. f.0 ∷ ss) (each_selector runs) ss f.2 in
     record { first = f.0; rest = rest.0; first_is = f.1; rest_is = rest.1; all_are = rest.2 }
 
--- one more selector behind others
+-- one more selector after others
 pub each_more : (runs : List (List SelectorPart)) (run : List SelectorPart) (ss : List (List CompoundSelector)) (s : List CompoundSelector)
     → each_selector runs ≡ Some ss → compounds_of run ≡ Some s → each_selector (runs ++ run ∷ []) ≡ Some (ss ++ s ∷ [])
 each_more [] run ss s is one =

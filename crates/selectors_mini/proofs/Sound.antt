@@ -1,7 +1,7 @@
 -- What the reader of a selector reads is spelled so.
 use Rattle.std.proofs.Common.{◌≡◌, ℕ, refl, ap, subst, sym, ◌∙◌, List, ◌∷◌, [], ◌++◌, Some, append_assoc}
 use Rattle.std.specs.Prelude.{IfSome, option_map, option_to_list}
-use Rattle.selectors_mini.specs.Compounds.{CompoundSelector, any_element, of_type, with_id, with_class, followed_by}
+use Rattle.selectors_mini.specs.Compounds.{CompoundSelector, any_element, of_type, compound_with_id, compound_with_class, followed_by}
 use Rattle.selectors_mini.specs.Parts.{SelectorPart, Word, Hash, Dot, Star, Greater, Comma, Space, Other}
 use Rattle.selectors_mini.specs.Spelling.{Continues, IsCompound, AreSpaces, IsCombinator, AreCompounds, IsSelector}
 use Rattle.selectors_mini.specs.Spelling as spelling
@@ -13,7 +13,7 @@ use Rattle.selectors_mini.specs.declared.reader.Place.TheVariants.{Start, Inside
 use Rattle.selectors_mini.specs.declared.reader.Advance.{Advance}
 use Rattle.selectors_mini.proofs.Lists.{and_then_some, map_some}
 
--- behind the compound d the parts end a selector, which with d has these compounds
+-- after the compound d the parts end a selector, which with d has these compounds
 data IsTail (d : CompoundSelector) : List SelectorPart → List CompoundSelector → Type 0 where
   stop : (after : List SelectorPart) → AreSpaces after → IsTail d after (d ∷ [])
   go : (between inside after : List SelectorPart) (k : Combinator) (cs : List CompoundSelector) → IsCombinator between k
@@ -28,9 +28,9 @@ record InsideTail (c : CompoundSelector) (parts : List SelectorPart) (cs : List 
   pub on : Continues c front whole
   pub tail : IsTail whole rest cs
 
--- behind the `.` of a class
+-- after the `.` of a class
 abbrev PointTail : CompoundSelector → List SelectorPart → List CompoundSelector → Type 0
-PointTail c parts cs = (name : List ℕ) × (rest : List SelectorPart) × (Word name ∷ rest ≡ parts) × InsideTail (with_class c name) rest cs
+PointTail c parts cs = (name : List ℕ) × (rest : List SelectorPart) × (Word name ∷ rest ≡ parts) × InsideTail (compound_with_class c name) rest cs
 
 -- compounds begin, and only spaces follow them
 record Begins (parts : List SelectorPart) (cs : List CompoundSelector) : Type 0 where
@@ -88,7 +88,7 @@ word_begins : (name : List ℕ) (parts : List SelectorPart) (cs : List CompoundS
 word_begins name parts cs t =
     begins_as (ap (λ l. Word name ∷ l) t.parts_are) (begun (Word name ∷ t.front) t.whole t.rest cs (spelling.type t.whole name t.front t.on) t.tail)
 
-hash_begins : (name : List ℕ) (parts : List SelectorPart) (cs : List CompoundSelector) → InsideTail (with_id any_element name) parts cs → Begins (Hash name ∷ parts) cs
+hash_begins : (name : List ℕ) (parts : List SelectorPart) (cs : List CompoundSelector) → InsideTail (compound_with_id any_element name) parts cs → Begins (Hash name ∷ parts) cs
 hash_begins name parts cs t =
     begins_as (ap (λ l. Hash name ∷ l) t.parts_are) (begun (Hash name ∷ t.front) t.whole t.rest cs (spelling.id t.whole name t.front t.on) t.tail)
 
@@ -113,7 +113,7 @@ at_spaced c {cs = cs} b =
 at_below : (c : CompoundSelector) {parts : List SelectorPart} {cs : List CompoundSelector} → Begins parts cs → Sound Below c parts (followed_by c Child ∷ cs)
 at_below c {cs = cs} b = (cs, at_start b, refl)
 
--- `>` behind a compound
+-- `>` after a compound
 below_tail : (c : CompoundSelector) (parts : List SelectorPart) (cs : List CompoundSelector) → Sound Below c parts cs → IsTail c (Greater ∷ parts) cs
 below_tail c parts cs (rest, selector, are) = subst (IsTail c (Greater ∷ parts)) (sym are) (by_selector selector)
   where
@@ -122,7 +122,7 @@ below_tail c parts cs (rest, selector, are) = subst (IsTail c (Greater ∷ parts
 
 -- ---- a part of a compound
 
-more_id : (c : CompoundSelector) (name : List ℕ) (parts : List SelectorPart) (cs : List CompoundSelector) → InsideTail (with_id c name) parts cs → InsideTail c (Hash name ∷ parts) cs
+more_id : (c : CompoundSelector) (name : List ℕ) (parts : List SelectorPart) (cs : List CompoundSelector) → InsideTail (compound_with_id c name) parts cs → InsideTail c (Hash name ∷ parts) cs
 more_id c name parts cs t = record {
   front = Hash name ∷ t.front;
   rest = t.rest;

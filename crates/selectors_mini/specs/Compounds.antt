@@ -39,13 +39,13 @@ any_element = record { tag = None; ids = []; classes = []; next = None }
 abbrev pub of_type : List ℕ → CompoundSelector
 of_type name = record { tag = Some name; ids = []; classes = []; next = None }
 
--- the compound with one more id behind its others
-abbrev pub with_id : CompoundSelector → List ℕ → CompoundSelector
-with_id c name = record c { ids = c.ids ++ name ∷ [] }
+-- the compound with one more id after its others
+abbrev pub compound_with_id : CompoundSelector → List ℕ → CompoundSelector
+compound_with_id c name = record c { ids = c.ids ++ name ∷ [] }
 
--- the compound with one more class behind its others
-abbrev pub with_class : CompoundSelector → List ℕ → CompoundSelector
-with_class c name = record c { classes = c.classes ++ name ∷ [] }
+-- the compound with one more class after its others
+abbrev pub compound_with_class : CompoundSelector → List ℕ → CompoundSelector
+compound_with_class c name = record c { classes = c.classes ++ name ∷ [] }
 
 -- the compound before one that stands to it so
 abbrev pub followed_by : CompoundSelector → Combinator → CompoundSelector

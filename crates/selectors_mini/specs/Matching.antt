@@ -45,7 +45,7 @@ has_class e class = list_any (λ own. bytes_eq own class) e.classes
 abbrev pub represents : CompoundSelector → Element → Bool
 represents c e = option_map_or (λ tag. bytes_eq e.tag tag) c.tag true && (list_all (has_id e) c.ids && list_all (has_class e) c.classes)
 
--- the test holds of the list or of what is left of it behind some of its first elements
+-- the test holds of the list or of what is left of it after some of its first elements
 abbrev pub any_rest : (List Element → Bool) → List Element → Bool
 any_rest test [] = test []
 any_rest test (e ∷ es) = test (e ∷ es) || any_rest test es

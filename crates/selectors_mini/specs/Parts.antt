@@ -7,7 +7,7 @@ use Rattle.css_token.specs.declared.token.Token.{Token}
 use Rattle.selectors_mini.specs.declared.part.Part.{Part}
 use Rattle.selectors_mini.specs.declared.part.Part.TheVariants as part
 
--- a token by what it says: an identifier; the identifier behind a `#`; `.`; `*`; `>`; `,`; spaces; any other
+-- a token by what it says: an identifier; the identifier after a `#`; `.`; `*`; `>`; `,`; spaces; any other
 pub data SelectorPart : Type 0 where
   Word : List ℕ → SelectorPart
   Hash : List ℕ → SelectorPart

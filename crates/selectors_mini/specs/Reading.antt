@@ -2,7 +2,7 @@
 use Rattle.std.specs.Prelude.{◌≡◌, Bool, true, false, List, [], ◌∷◌, ◌++◌, length, nat_lt, if◌then◌else◌, Option, None, Some, option_map, option_to_list, Result, Ok, Err, ⊤}
 use Rattle.std.specs.List.{list_any, slice_split}
 use Rattle.std.specs.Option.{option_and_then}
-use Rattle.selectors_mini.specs.Compounds.{CompoundSelector, any_element, of_type, with_id, with_class, followed_by}
+use Rattle.selectors_mini.specs.Compounds.{CompoundSelector, any_element, of_type, compound_with_id, compound_with_class, followed_by}
 use Rattle.selectors_mini.specs.Parts.{SelectorPart, Word, Hash, Dot, Star, Greater, Comma, Space}
 use Rattle.selectors_mini.specs.declared.combinator.Combinator.TheVariants.{Child, Descendant}
 use Rattle.selectors_mini.specs.declared.reader.Place.{Place}
@@ -33,7 +33,7 @@ stay place c = record { ended = None; compound = c; place = place }
 -- a compound begins with the part, which ends another
 abbrev pub begin : Option CompoundSelector → SelectorPart → Option Advance
 begin ended (Word name) = Some (record { ended = ended; compound = of_type name; place = Inside })
-begin ended (Hash name) = Some (record { ended = ended; compound = with_id any_element name; place = Inside })
+begin ended (Hash name) = Some (record { ended = ended; compound = compound_with_id any_element name; place = Inside })
 begin ended Dot = Some (record { ended = ended; compound = any_element; place = Point })
 begin ended Star = Some (record { ended = ended; compound = any_element; place = Inside })
 begin ended _ = None
@@ -42,26 +42,26 @@ begin ended _ = None
 abbrev pub step_start : CompoundSelector → SelectorPart → Option Advance
 step_start c part = if is_space part then Some (stay Start c) else begin None part
 
--- directly behind a part of the compound
+-- directly after a part of the compound
 abbrev pub step_inside : CompoundSelector → SelectorPart → Option Advance
-step_inside c (Hash name) = Some (stay Inside (with_id c name))
+step_inside c (Hash name) = Some (stay Inside (compound_with_id c name))
 step_inside c Dot = Some (stay Point c)
 step_inside c Greater = Some (stay Below c)
 step_inside c Space = Some (stay Spaced c)
 step_inside c _ = None
 
--- behind the `.` of a class
+-- after the `.` of a class
 abbrev pub step_to_name : CompoundSelector → SelectorPart → Option Advance
-step_to_name c (Word name) = Some (stay Inside (with_class c name))
+step_to_name c (Word name) = Some (stay Inside (compound_with_class c name))
 step_to_name c _ = None
 
--- behind the compound and spaces
+-- after the compound and spaces
 abbrev pub step_spaced : CompoundSelector → SelectorPart → Option Advance
 step_spaced c part =
     if is_space part then Some (stay Spaced c)
     else (if is_greater part then Some (stay Below c) else begin (Some (followed_by c Descendant)) part)
 
--- behind the compound and `>`
+-- after the compound and `>`
 abbrev pub step_below : CompoundSelector → SelectorPart → Option Advance
 step_below c part = if is_space part then Some (stay Below c) else begin (Some (followed_by c Child)) part
 

@@ -1,7 +1,7 @@
 -- The spelling of a selector list (Selectors 4, section 18), in the profile without pseudo-classes, attributes and siblings.
 use Rattle.std.specs.Prelude.{ℕ, ◌<◌, ◌≤◌, List, [], ◌∷◌, ◌++◌, length, All, Any, Result, Ok, Err, ⊤}
 use Rattle.std.specs.Global.{Vec}
-use Rattle.selectors_mini.specs.Compounds.{CompoundSelector, any_element, of_type, with_id, with_class, followed_by}
+use Rattle.selectors_mini.specs.Compounds.{CompoundSelector, any_element, of_type, compound_with_id, compound_with_class, followed_by}
 use Rattle.selectors_mini.specs.Parts.{SelectorPart, Word, Hash, Dot, Star, Greater, Comma, Space}
 use Rattle.selectors_mini.specs.declared.combinator.Combinator.{Combinator}
 use Rattle.selectors_mini.specs.declared.combinator.Combinator.TheVariants.{Child, Descendant}
@@ -12,18 +12,18 @@ use Rattle.selectors_mini.specs.declared.selector.Selector.{Selector}
 -- the compound c, and then these classes and ids, are the compound d
 pub data Continues : CompoundSelector → List SelectorPart → CompoundSelector → Type 0 where
   end : (c : CompoundSelector) → Continues c [] c
-  class : (c d : CompoundSelector) (name : List ℕ) (rest : List SelectorPart) → Continues (with_class c name) rest d
+  class : (c d : CompoundSelector) (name : List ℕ) (rest : List SelectorPart) → Continues (compound_with_class c name) rest d
       → Continues c (Dot ∷ Word name ∷ rest) d
-  id : (c d : CompoundSelector) (name : List ℕ) (rest : List SelectorPart) → Continues (with_id c name) rest d
+  id : (c d : CompoundSelector) (name : List ℕ) (rest : List SelectorPart) → Continues (compound_with_id c name) rest d
       → Continues c (Hash name ∷ rest) d
 
 -- a compound: a type, `*`, a class or an id, and then classes and ids
 pub data IsCompound : List SelectorPart → CompoundSelector → Type 0 where
   type : (d : CompoundSelector) (name : List ℕ) (rest : List SelectorPart) → Continues (of_type name) rest d → IsCompound (Word name ∷ rest) d
   universal : (d : CompoundSelector) (rest : List SelectorPart) → Continues any_element rest d → IsCompound (Star ∷ rest) d
-  class : (d : CompoundSelector) (name : List ℕ) (rest : List SelectorPart) → Continues (with_class any_element name) rest d
+  class : (d : CompoundSelector) (name : List ℕ) (rest : List SelectorPart) → Continues (compound_with_class any_element name) rest d
       → IsCompound (Dot ∷ Word name ∷ rest) d
-  id : (d : CompoundSelector) (name : List ℕ) (rest : List SelectorPart) → Continues (with_id any_element name) rest d
+  id : (d : CompoundSelector) (name : List ℕ) (rest : List SelectorPart) → Continues (compound_with_id any_element name) rest d
       → IsCompound (Hash name ∷ rest) d
 
 -- spaces, or nothing

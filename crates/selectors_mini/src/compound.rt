@@ -1,7 +1,7 @@
 //! Compound selectors.
 
 ghost use Rattle.std.specs.Prelude.{◌≡◌, ◌≤◌, length, option_map, IfOk, OnOk};
-ghost use Rattle.selectors_mini.specs.Compounds.{any_element, of_type, followed_by, with_class, with_id};
+ghost use Rattle.selectors_mini.specs.Compounds.{any_element, of_type, followed_by, compound_with_class, compound_with_id};
 
 use crate::combinator::Combinator;
 use crate::ident::{Ident, copy_idents};
@@ -59,7 +59,7 @@ impl Compound {
     }
 
     pub(crate) fn add_id(&mut self, alloc: Global, name: &[u8]) -> Result<(), AllocError>
-        ensures { OnOk result (self.new ≡ with_id self.old name.now) }
+        ensures { OnOk result (self.new ≡ compound_with_id self.old name.now) }
     {
         if self.ids.len() >= MAX_PARTS {
             return Err(AllocError);
@@ -70,7 +70,7 @@ impl Compound {
     }
 
     pub(crate) fn add_class(&mut self, alloc: Global, name: &[u8]) -> Result<(), AllocError>
-        ensures { OnOk result (self.new ≡ with_class self.old name.now) }
+        ensures { OnOk result (self.new ≡ compound_with_class self.old name.now) }
     {
         if self.classes.len() >= MAX_PARTS {
             return Err(AllocError);

@@ -13,7 +13,7 @@ use css_token::{Kind, Token};
 pub(crate) enum Part<'a> {
     /// An identifier.
     Word(&'a [u8]),
-    /// The identifier behind a `#`.
+    /// The identifier after a `#`.
     Hash(&'a [u8]),
     /// `.`
     Dot,

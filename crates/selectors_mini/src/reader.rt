@@ -17,13 +17,13 @@ use std::alloc::{AllocError, Global};
 pub(crate) enum Place {
     /// Before the first compound.
     Start,
-    /// Directly behind a part of a compound.
+    /// Directly after a part of a compound.
     Inside,
-    /// Behind the `.` of a class.
+    /// After the `.` of a class.
     Point,
-    /// Behind a compound and spaces.
+    /// After a compound and spaces.
     Spaced,
-    /// Behind a compound and `>`, with spaces or not.
+    /// After a compound and `>`, with spaces or not.
     Below,
 }
 
@@ -123,7 +123,7 @@ fn step_inside(alloc: Global, compound: Compound, part: &Part) -> Result<Advance
     ensures { Tells (λ s. s) result (step_inside compound (part_of_code part.now)) }
 {
     match part {
-        Part::Hash(name) => with_id(alloc, compound, name),
+        Part::Hash(name) => compound_with_id(alloc, compound, name),
         Part::Dot => Ok(stay(Place::Point, compound)),
         Part::Greater => Ok(stay(Place::Below, compound)),
         Part::Space => Ok(stay(Place::Spaced, compound)),
@@ -135,7 +135,7 @@ fn step_to_name(alloc: Global, compound: Compound, part: &Part) -> Result<Advanc
     ensures { Tells (λ s. s) result (step_to_name compound (part_of_code part.now)) }
 {
     match part {
-        Part::Word(name) => with_class(alloc, compound, name),
+        Part::Word(name) => compound_with_class(alloc, compound, name),
         Part::Hash(_)
         | Part::Dot
         | Part::Star
@@ -231,7 +231,11 @@ fn of_id(alloc: Global, ended: Option<Compound>, name: &[u8]) -> Result<Advance,
     })
 }
 
-fn with_id(alloc: Global, compound: Compound, name: &[u8]) -> Result<Advance, SelectorFault>
+fn compound_with_id(
+    alloc: Global,
+    compound: Compound,
+    name: &[u8],
+) -> Result<Advance, SelectorFault>
     ensures { Tells (λ s. s) result (step_inside compound (SelectorPart.Hash name.now)) }
 {
     let mut longer = compound;
@@ -241,7 +245,11 @@ fn with_id(alloc: Global, compound: Compound, name: &[u8]) -> Result<Advance, Se
     }
 }
 
-fn with_class(alloc: Global, compound: Compound, name: &[u8]) -> Result<Advance, SelectorFault>
+fn compound_with_class(
+    alloc: Global,
+    compound: Compound,
+    name: &[u8],
+) -> Result<Advance, SelectorFault>
     ensures { Tells (λ s. s) result (step_to_name compound (SelectorPart.Word name.now)) }
 {
     let mut longer = compound;

@@ -85,7 +85,7 @@ pub OnTrue-then : {P Q : Type 0} (b : Bool) → (P → Q) → OnTrue b P → OnT
 OnTrue-then true f h = f h
 OnTrue-then false f h = tt
 
--- what holds of the value behind a reference
+-- what holds of the value after a reference
 pub IfSome-copied : {A : Type 0} (o : Option (Bor A)) (P : A → Type 0) → IfSome (option_copied o) P → IfSome o (λ b. P b.now)
 IfSome-copied None P h = tt
 IfSome-copied (Some b) P h = h

@@ -172,7 +172,7 @@ fn copy_gone(alloc: Global, items: &[Gone]) -> Result<Vec<Gone>, AllocError>
     Ok(copies)
 }
 
-/// Effects behind a pointer, which take no memory where there is none. Contracts see them as the effects.
+/// Effects after a pointer, which take no memory where there is none. Contracts see them as the effects.
 #[derive(Drop)]
 pub(crate) struct BoxedEffects {
     effects: Option<Box<Effects>>,

@@ -27,8 +27,8 @@ struct Parts {
 
 /// What is kept of an element from one style change event to the next: whether a frame has styled it, whether
 /// it was rendered at the last event, whether nothing of it will change by time alone, the declarations of
-/// that event, the current style that it gave, and its effects. It stands behind one pointer, and its effects
-/// behind another where there are any.
+/// that event, the current style that it gave, and its effects. It stands after one pointer, and its effects
+/// after another where there are any.
 #[derive(Drop)]
 pub struct Entry {
     parts: Box<Parts>,

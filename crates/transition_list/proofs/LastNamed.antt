@@ -7,7 +7,7 @@ use Rattle.transition_list.specs.declared.matched.MatchedItem.{MatchedItem}
 use Rattle.value_types.specs.TimingLists.{TransitionValues}
 use Rattle.value_types.specs.declared.property.PropertyId.{PropertyId}
 use Rattle.value_types.specs.declared.shorthand.PropertyItem.{PropertyItem}
-use Rattle.transition_list.specs.Matching.{IsLastNamed, Matches, last_named, last_named_from, later, match_at, match_of, names}
+use Rattle.transition_list.specs.Matching.{IsLastNamed, IsMatchOf, last_named, last_named_from, later, match_at, match_of, names}
 
 from_0 : (k : ℕ) → 0 + k ≡ k
 from_0 k = omega arith
@@ -82,15 +82,15 @@ only_one p xs i j a b = elim (cases_lt i j) [
 
 -- ---- the relation and the function
 
-matches_found : (lists : TransitionValues) (p : PropertyId) (o : Option ℕ) → Finds 0 p lists.items o → Matches lists p (option_map (match_at lists) o)
+matches_found : (lists : TransitionValues) (p : PropertyId) (o : Option ℕ) → Finds 0 p lists.items o → IsMatchOf lists p (option_map (match_at lists) o)
 unfolding Finds
 matches_found lists p None none = none
 matches_found lists p (Some i) (k, at, found) = (k, found, ap (match_at lists) (at ∙ from_0 k))
 
-pub matches : (lists : TransitionValues) (p : PropertyId) → Matches lists p (match_of lists p)
+pub matches : (lists : TransitionValues) (p : PropertyId) → IsMatchOf lists p (match_of lists p)
 matches lists p = matches_found lists p (last_named p lists.items) (finds 0 p lists.items)
 
-same : (lists : TransitionValues) (p : PropertyId) (m : Option MatchedItem) (o : Option ℕ) → Matches lists p m → Finds 0 p lists.items o → m ≡ option_map (match_at lists) o
+same : (lists : TransitionValues) (p : PropertyId) (m : Option MatchedItem) (o : Option ℕ) → IsMatchOf lists p m → Finds 0 p lists.items o → m ≡ option_map (match_at lists) o
 unfolding Finds
 same lists p None None h none = refl
 same lists p None (Some i) h (k, at, found) = absurd (clash p (slice_get lists.items k) found.names_it (each_at (λ y. names y p ≡ false) lists.items k h))
@@ -98,9 +98,9 @@ same lists p (Some m) None (i, last, is) none = absurd (clash p (slice_get lists
 same lists p (Some m) (Some j) (i, last, is) (k, at, found) =
     ap Some (is ∙ ap (match_at lists) (only_one p lists.items i k last found ∙ sym (at ∙ from_0 k)))
 
-pub one : (lists : TransitionValues) (p : PropertyId) (m : Option MatchedItem) → Matches lists p m ↔ (m ≡ match_of lists p)
+pub one : (lists : TransitionValues) (p : PropertyId) (m : Option MatchedItem) → IsMatchOf lists p m ↔ (m ≡ match_of lists p)
 one lists p m =
-    (λ h. same lists p m (last_named p lists.items) h (finds 0 p lists.items), λ e. subst (Matches lists p) (sym e) (matches lists p))
+    (λ h. same lists p m (last_named p lists.items) h (finds 0 p lists.items), λ e. subst (IsMatchOf lists p) (sym e) (matches lists p))
 
 pub named_last : (p : PropertyId) (items : List PropertyItem) (x : PropertyItem) → IsTrue (names x p) → last_named p (items ++ x ∷ []) ≡ Some (length items)
 named_last p items x e = with_one_more 0 p items x ∙ ap (λ b. if b then Some (0 + length items) else last_named_from 0 p items) e ∙ ap Some (from_0 (length items))

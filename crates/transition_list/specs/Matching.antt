@@ -39,9 +39,9 @@ match_at lists i = record {
 }
 
 -- the match of a property: what the lists give at the index of the last item that names it, and none where no item does
-abbrev pub Matches : TransitionValues → PropertyId → Option MatchedItem → Type 0
-Matches lists p (Some m) = (i : ℕ) × IsLastNamed p lists.items i × (m ≡ match_at lists i)
-Matches lists p None = All (λ x. names x p ≡ false) lists.items
+abbrev pub IsMatchOf : TransitionValues → PropertyId → Option MatchedItem → Type 0
+IsMatchOf lists p (Some m) = (i : ℕ) × IsLastNamed p lists.items i × (m ≡ match_at lists i)
+IsMatchOf lists p None = All (λ x. names x p ≡ false) lists.items
 
 -- ---- the same as functions
 

@@ -3,7 +3,7 @@
 ghost use Rattle.std.specs.Prelude.{◌≡◌, Some, if◌then◌else◌, option_copied, unwrap_or};
 ghost use Rattle.value_types.specs.Timing.{IsDelay, IsDuration, IsEasing, ease};
 ghost use Rattle.value_types.specs.TimingLists.{IsListOf, initial_transitions, no_time};
-ghost use Rattle.transition_list.specs.Matching.{Matches, is_among, last_named, match_at, match_of, names, repeated};
+ghost use Rattle.transition_list.specs.Matching.{IsMatchOf, is_among, last_named, match_at, match_of, names, repeated};
 
 use crate::matched::{Match, MatchedItem};
 use fix_num::Micros;
@@ -13,7 +13,7 @@ use value_types::{Easing, PropertyId, PropertyItem, TransitionLists, longhands};
 /// list being repeated (CSS Transitions 1, section 3, "matching transition-property value"). `None` exactly
 /// where no item names it.
 pub fn matching(lists: &TransitionLists, p: PropertyId) -> Option<Match>
-    ensures matches { Matches lists.now p result }
+    ensures matches { IsMatchOf lists.now p result }
     ensures value { result ≡ match_of lists.now p }
 {
     found(lists, p)

@@ -4,11 +4,11 @@ ghost use Rattle.transition_list.specs.declared.matched.MatchedItem.{MatchedItem
 ghost use Rattle.value_types.specs.TimingLists.{TransitionValues};
 ghost use Rattle.value_types.specs.declared.property.PropertyId.{PropertyId};
 ghost use Rattle.value_types.specs.declared.shorthand.PropertyItem.{PropertyItem};
-ghost use Rattle.transition_list.specs.Matching.{Matches, last_named, match_of, names};
+ghost use Rattle.transition_list.specs.Matching.{IsMatchOf, last_named, match_of, names};
 
 /// The match as a relation and as a function are one.
 pub fn one_match()
-    ensures { (lists : TransitionValues) (p : PropertyId) (m : Option MatchedItem) → Matches lists p m ↔ (m ≡ match_of lists p) }
+    ensures { (lists : TransitionValues) (p : PropertyId) (m : Option MatchedItem) → IsMatchOf lists p m ↔ (m ≡ match_of lists p) }
 {}
 
 /// An item that names the property matches it where it stands last.

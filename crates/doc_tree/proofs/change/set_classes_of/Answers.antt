@@ -5,7 +5,7 @@ use Rattle.doc_tree.specs.declared.fault.TreeFault.TheVariants.{NoMemory}
 use Rattle.doc_tree.specs.declared.limits.TheConstants.{MAX_CLASSES}
 use Rattle.doc_tree.specs.Change.{each_once, with_change}
 use Rattle.doc_tree.specs.Element.{Element}
-use Rattle.doc_tree.specs.Marks.{kept_of, document_of, IsSound}
+use Rattle.doc_tree.specs.Marks.{kept_of, document_of, AreMarksOfTree}
 use Rattle.doc_tree.proofs.Faults.{classes-answer, classes-many}
 use Rattle.doc_tree.proofs.Names.{texts, names-few}
 use Rattle.doc_tree.proofs.Changing.{changed-sound, document-changed}
@@ -33,7 +33,7 @@ returns-clause-sound c =
     let change = (λ (e : Element). record e { classes = map string_bytes c.in-Ok.classes.items }) in
     let old = and_parts _ _ (c.requires.fit c.in-Some.slot c.in-Some.ensures.found.live).bounded in
     let short = le-leb _ _ (subst (λ (cs : List (List ℕ)). length cs ≤ MAX_CLASSES) (sym classes) few) in
-    subst IsSound (sym c.put_classes.ensures) (changed-sound k c.requires c.args.n c.in-Some.slot c.in-Some.ensures.found change (λ e. record { number = refl; parent = refl }) (and_from _ _ old.0 short))
+    subst AreMarksOfTree (sym c.put_classes.ensures) (changed-sound k c.requires c.args.n c.in-Some.slot c.in-Some.ensures.found change (λ e. record { number = refl; parent = refl }) (and_from _ _ old.0 short))
 
 pub returns-clause-ok : goal.returns-clause-ok
 returns-clause-ok c =

@@ -5,7 +5,7 @@ use Rattle.doc_tree.specs.declared.fault.TreeFault.TheVariants.{NoMemory}
 use Rattle.doc_tree.specs.declared.limits.TheConstants.{MAX_STYLE_BYTES}
 use Rattle.doc_tree.specs.Change.{with_style}
 use Rattle.doc_tree.specs.Element.{Element}
-use Rattle.doc_tree.specs.Marks.{kept_of, document_of, IsSound}
+use Rattle.doc_tree.specs.Marks.{kept_of, document_of, AreMarksOfTree}
 use Rattle.doc_tree.proofs.Faults.{change-answer}
 use Rattle.doc_tree.proofs.Changing.{changed-sound, document-changed}
 use Rattle.doc_tree.proofs.change.set_style_of.Goals as goal
@@ -17,7 +17,7 @@ pub returns-clause-sound : goal.returns-clause-sound
 returns-clause-sound c =
     let k = kept_of c.args.nodes.now in
     let change = (λ (e : Element). record e { style = string_bytes c.in-Ok.style }) in
-    subst IsSound (sym c.put_style.ensures) (changed-sound k c.requires.sound c.args.n c.in-Some.slot c.in-Some.ensures.found change (λ e. record { number = refl; parent = refl }) (and_from _ _ (le-leb _ _ (subst (λ (bs : List ℕ). length bs ≤ MAX_STYLE_BYTES) (sym c.in-Ok.ensures.ok) c.requires.short)) (and_parts _ _ (c.requires.sound.fit c.in-Some.slot c.in-Some.ensures.found.live).bounded).1))
+    subst AreMarksOfTree (sym c.put_style.ensures) (changed-sound k c.requires.sound c.args.n c.in-Some.slot c.in-Some.ensures.found change (λ e. record { number = refl; parent = refl }) (and_from _ _ (le-leb _ _ (subst (λ (bs : List ℕ). length bs ≤ MAX_STYLE_BYTES) (sym c.in-Ok.ensures.ok) c.requires.short)) (and_parts _ _ (c.requires.sound.fit c.in-Some.slot c.in-Some.ensures.found.live).bounded).1))
 
 pub returns-clause-fault : goal.returns-clause-fault
 returns-clause-fault c = change-answer (kept_of c.args.nodes.now) c.requires.sound c.args.n c.in-Some.slot (Ok tt) c.in-Some.ensures.found tt

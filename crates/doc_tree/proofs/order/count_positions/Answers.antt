@@ -1,5 +1,5 @@
 use Rattle.std.proofs.Common.{true, ◌≡◌, ◌∙◌, ◌*◌, sym, ap, length, get_or, subst, ℕ, List, arith}
-use Rattle.doc_tree.specs.Marks.{kept_of, marks_until, slots_of, with_positions, with_ranks, with_order, IsSound}
+use Rattle.doc_tree.specs.Marks.{kept_of, marks_until, slots_of, with_positions, with_ranks, with_order, AreMarksOfTree}
 use Rattle.doc_tree.proofs.Ordering.{counted-sound, length-slots, len-room, read-order}
 use Rattle.doc_tree.proofs.order.count_positions.Goals as goal
 
@@ -17,5 +17,5 @@ returns-clause-sound c =
     ap (λ (xs : List ℕ). marks_until xs 1 (2 * k.len) c.index.result.now) c.deref.ensures.value ∙ ap (λ (m : ℕ). marks_until k.next 1 (2 * k.len) m) first in
     let ranks : c.put_ranks.new.ranks.items ≡ (with_positions k).ranks = c.put_ranks.ensures.ranks ∙ ap (λ (ms : List ℕ). with_ranks ms 0 k.ranks) marks in
     let order : c.put_ranks.new.order.items ≡ (with_positions k).order = c.put_ranks.ensures.order ∙ ap (λ (ms : List ℕ). with_order ms 0 k.order) marks in
-    subst (λ (rs : List ℕ). IsSound (record k { ranks = rs; order = c.put_ranks.new.order.items; fresh = true })) (sym ranks)
-    (subst (λ (os : List ℕ). IsSound (record k { ranks = (with_positions k).ranks; order = os; fresh = true })) (sym order) (counted-sound k c.requires))
+    subst (λ (rs : List ℕ). AreMarksOfTree (record k { ranks = rs; order = c.put_ranks.new.order.items; fresh = true })) (sym ranks)
+    (subst (λ (os : List ℕ). AreMarksOfTree (record k { ranks = (with_positions k).ranks; order = os; fresh = true })) (sym order) (counted-sound k c.requires))

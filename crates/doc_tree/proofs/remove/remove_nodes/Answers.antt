@@ -4,7 +4,7 @@ use Rattle.std.specs.List.{list_all}
 use Rattle.doc_tree.specs.declared.fault.TreeFault.TheVariants.{NoMemory}
 use Rattle.doc_tree.specs.Change.{without}
 use Rattle.doc_tree.specs.Element.{numbers_of, subtree_of}
-use Rattle.doc_tree.specs.Marks.{kept_of, document_of, IsSound}
+use Rattle.doc_tree.specs.Marks.{kept_of, document_of, AreMarksOfTree}
 use Rattle.doc_tree.proofs.Faults.{change-answer}
 use Rattle.doc_tree.proofs.Removing.{below-within, cut-sound, document-cut, numbers-gone}
 use Rattle.doc_tree.proofs.remove.remove_nodes.Goals as goal
@@ -23,7 +23,7 @@ pub returns-in_default-numbers_at-clause-fault : goal.returns-in_default-numbers
 returns-in_default-numbers_at-clause-fault c = change-answer {T = Vec ℕ Global} (kept_of c.args.nodes.now) c.requires c.args.n c.in-Some.slot (Err NoMemory) c.in-Some.ensures.found refl
 
 pub returns-clause-sound : goal.returns-clause-sound
-returns-clause-sound c = subst IsSound (sym c.cut.ensures) (cut-sound (kept_of c.args.nodes.now) c.requires c.in-Some.slot c.in-Some.ensures.found.live)
+returns-clause-sound c = subst AreMarksOfTree (sym c.cut.ensures) (cut-sound (kept_of c.args.nodes.now) c.requires c.in-Some.slot c.in-Some.ensures.found.live)
 
 pub returns-clause-fault : goal.returns-clause-fault
 returns-clause-fault c = change-answer (kept_of c.args.nodes.now) c.requires c.args.n c.in-Some.slot (Ok c.in-Ok-numbers_at.numbers) c.in-Some.ensures.found tt

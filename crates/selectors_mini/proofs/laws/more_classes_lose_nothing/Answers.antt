@@ -15,7 +15,7 @@ still c e other more is = record {
   has_classes = All-weaker (Contains e.classes) (Contains other.classes) (λ class there. All-contains (Contains other.classes) e.classes class more.classes there) c.classes is.has_classes;
 }
 
--- the elements of another chain behind some of its first
+-- the elements of another chain after some of its first
 record Cut (above others : List Element) : Type 0 where
   pub between : List Element
   pub rest : List Element
