@@ -11,8 +11,7 @@ use crate::compound::Compound;
 use crate::selector::Selector;
 use doc_tree::Tree;
 
-/// Whether the selector matches element `n`. Takes no memory, and at most a look-up for each compound and inclusive
-/// ancestor.
+/// Whether the selector matches element `n`. Takes no memory, and tries no compound twice on one element.
 pub fn matches(s: &Selector, tree: &Tree, n: u32) -> bool
     requires { IsTrue (is_in n tree.now.elements) }
     ensures matches { IsTrue result ↔ Matches s.now (inclusive_ancestors tree.now.elements n) }

@@ -1,6 +1,7 @@
 //! Schedules of a plan of three elements: a root and its two children.
 
-ghost use Rattle.std.specs.Prelude.{◌≡◌, ℕ, [], false, IfOk};
+ghost use Rattle.std.specs.Prelude.{◌≡◌, ℕ, [], ◌∷◌, true, false, IfOk};
+ghost use Rattle.pass_core.specs.Plans.{is_proper};
 ghost use Rattle.pass_core.specs.Passes.{are_allowed};
 ghost use Rattle.pass_core.specs.declared.step.Step.TheVariants.{Kept};
 
@@ -84,6 +85,16 @@ fn child_waits()
     ensures { (top : ℕ) → are_allowed (record { outcome = λ element entry down. Kept down; top = top }) PLACES (record { entries = OPENING; done = [] }) CHILD_FIRST ≡ false }
 {}
 
+/// Plans that aren't proper: with an element twice, a child before its parent, an end that leaves a child out, and
+/// one that takes a stranger in.
+fn improper_plans()
+    ensures twice { is_proper (record { element = 1; parent = None; end = 1 } ∷ record { element = 1; parent = None; end = 2 } ∷ []) ≡ false }
+    ensures child_first { is_proper (record { element = 1; parent = Some 1; end = 1 } ∷ record { element = 2; parent = None; end = 2 } ∷ []) ≡ false }
+    ensures left_out { is_proper (record { element = 1; parent = None; end = 1 } ∷ record { element = 2; parent = Some 0; end = 2 } ∷ []) ≡ false }
+    ensures taken_in { is_proper (record { element = 1; parent = None; end = 2 } ∷ record { element = 2; parent = None; end = 2 } ∷ []) ≡ false }
+    ensures forest { is_proper (record { element = 1; parent = None; end = 1 } ∷ record { element = 2; parent = None; end = 2 } ∷ []) ≡ true }
+{}
+
 fn three(alloc: Global) -> Result<Plan, AllocError>
     ensures { IfOk result (λ plan. plan.places.items ≡ PLACES) }
 {
@@ -101,6 +112,7 @@ fn begun(alloc: Global) -> Result<CoreState<Handing>, AllocError>
 #[test]
 fn either_child_may_come_first(rt: HostRuntime) -> Result<(), Fail> {
     child_waits();
+    improper_plans();
     let work = Handing { top: 7 };
     let plan = three(rt.alloc())?;
     let mut older = begun(rt.alloc())?;
