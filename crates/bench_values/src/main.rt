@@ -1,3 +1,5 @@
+//! Floor: programs. Nothing is claimed of it but that it is safe.
+//!
 //! Calls of the crates of values and of transitions in long loops, to be timed from outside: `easings N`
 //! reads a list of easings so many times, `outputs N` asks for a curve's output, `decisions N` for a decision
 //! on a transition that runs; `fresh N`, `styles N`, `declarations N`, `resting N` and `running N` make so many entries,

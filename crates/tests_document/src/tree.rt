@@ -4,11 +4,7 @@ use doc_tree::{Tree, TreeFault};
 use std::process::Abort;
 use std::test::Fail;
 
-fn add(
-    tree: &mut Tree,
-    rt: &impl Abort,
-    adds: &[(u32, Option<u32>, Result<(), TreeFault>)],
-) {
+fn add(tree: &mut Tree, rt: &impl Abort, adds: &[(u32, Option<u32>, Result<(), TreeFault>)]) {
     for (n, parent, want) in adds {
         assert!(rt; tree.add(*n, *parent, "a") == *want);
     }
@@ -67,7 +63,11 @@ fn inserts_before_siblings(rt: HostRuntime) -> Result<(), Fail> {
     add(
         &mut tree,
         &rt,
-        &[(1, None, Ok(())), (2, Some(1), Ok(())), (3, Some(2), Ok(()))],
+        &[
+            (1, None, Ok(())),
+            (2, Some(1), Ok(())),
+            (3, Some(2), Ok(())),
+        ],
     );
     assert!(rt; tree.insert(4, 2, "b") == Ok(()));
     assert!(rt; tree.insert(5, 3, "b") == Ok(()));

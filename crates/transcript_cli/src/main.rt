@@ -1,3 +1,5 @@
+//! Floor: programs. Knows no thread yet.
+//!
 //! Reads a script of edits and frames, restyles, and writes events and computed values.
 #![tactic(auto)]
 
