@@ -67,7 +67,7 @@ delim_is_no_comma false false false = refl
 
 pub comma_by_kind : (text : List ℕ) (k : Kind) (from to : ℕ) → is_comma (part_at text k from to) ≡ is_comma_kind k
 comma_by_kind text kind.Ident from to = refl
-comma_by_kind text kind.Hash from to = hash_is_no_comma (begins_identifier (slice_range text (from + 1) to)) (slice_range text (from + 1) to)
+comma_by_kind text kind.Hash from to = hash_is_no_comma _ (slice_range text (from + 1) to)
 comma_by_kind text kind.Delim from to = delim_is_no_comma (slice_index text from == 46) (slice_index text from == 42) (slice_index text from == 62)
 comma_by_kind text kind.Comma from to = refl
 comma_by_kind text kind.Space from to = refl

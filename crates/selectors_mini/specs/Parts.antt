@@ -1,5 +1,7 @@
 -- What tokens say to a reader of selectors.
-use Rattle.std.specs.Prelude.{ℕ, ◌+◌, ◌==◌, Bool, true, false, List, map, slice_range, slice_index, if◌then◌else◌}
+use Rattle.std.specs.Prelude.{ℕ, ◌+◌, ◌==◌, ◌&&◌, Bool, true, false, List, map, slice_range, slice_index, if◌then◌else◌}
+use Rattle.std.specs.List.{list_all}
+use Rattle.css_token.specs.Characters.{is_name}
 use Rattle.css_token.specs.Productions.{begins_identifier}
 use Rattle.css_token.specs.declared.token.Kind.{Kind}
 use Rattle.css_token.specs.declared.token.Kind.TheVariants as kind
@@ -18,9 +20,9 @@ pub data SelectorPart : Type 0 where
   Space : SelectorPart
   Other : SelectorPart
 
--- a hash by its name, which has name characters alone: it is an identifier where it begins as one
+-- a hash by its name, where that is an identifier
 abbrev pub hash_part : List ℕ → SelectorPart
-hash_part name = if begins_identifier name then Hash name else Other
+hash_part name = if begins_identifier name && list_all is_name name then Hash name else Other
 
 -- the character that stands alone
 abbrev pub delim_part : ℕ → SelectorPart

@@ -1,12 +1,10 @@
 //! What tokens say to a reader of selectors.
 
-ghost use Rattle.std.specs.Prelude.{◌≡◌, slice_index};
-ghost use Rattle.css_token.specs.Characters.{is_name_start};
-ghost use Rattle.css_token.specs.Productions.{begins_identifier};
+ghost use Rattle.std.specs.Prelude.{◌≡◌};
 ghost use Rattle.css_token.specs.TokenLists.{LiesWithin};
 ghost use Rattle.selectors_mini.specs.Parts.{delim_part, hash_part, part_at, part_of_code};
 
-use css_token::{Kind, Token};
+use css_token::{Kind, Token, is_identifier};
 
 /// What a token says.
 #[derive(Clone, Copy)]
@@ -48,7 +46,7 @@ pub(crate) fn part_of<'a>(text: &'a [u8], token: &Token) -> Part<'a>
 fn hash_part(name: &[u8]) -> Part<'_>
     ensures { part_of_code result ≡ hash_part name.now }
 {
-    if begins_identifier(name) {
+    if is_identifier(name) {
         Part::Hash(name)
     } else {
         Part::Other
@@ -67,26 +65,4 @@ fn delim_part(byte: u8) -> Part<'static>
     } else {
         Part::Other
     }
-}
-
-/// Whether the bytes begin as an identifier does (CSS Syntax Level 3, section 4.3.9).
-fn begins_identifier(name: &[u8]) -> bool
-    ensures { result ≡ begins_identifier name.now }
-{
-    let first = byte_at(name, 0);
-    let second = byte_at(name, 1);
-    is_name_start(first) || (first == b'-' && (second == b'-' || is_name_start(second)))
-}
-
-fn is_name_start(byte: u8) -> bool
-    ensures { result ≡ is_name_start byte }
-{
-    byte.is_ascii_alphabetic() || byte == b'_' || byte >= 0x80
-}
-
-/// The byte at a place, or 0 past the end, which begins nothing.
-fn byte_at(bytes: &[u8], place: usize) -> u8
-    ensures { result ≡ slice_index bytes.now place }
-{
-    if place < bytes.len() { bytes[place] } else { 0 }
 }
