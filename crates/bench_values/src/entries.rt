@@ -2,7 +2,7 @@
 ghost use Rattle.std.specs.Prelude.{◌≡◌, IfOk};
 ghost use Rattle.value_types.specs.declared.property.PropertyId.{PropertyId};
 ghost use Rattle.style_data.specs.Kept.{IsKeptFor};
-ghost use Rattle.style_data.specs.Styles.{initial_values};
+ghost use Rattle.computed_style.specs.Styles.{initial_values};
 
 use fix_num::{Bill, Fix, Micros};
 use std::alloc::{AllocError, Global};

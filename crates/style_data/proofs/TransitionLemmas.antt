@@ -11,7 +11,7 @@ use Rattle.style_data.specs.declared.transition.Transition.{Transition}
 use Rattle.style_data.proofs.Changes.{All-with_changed_item, AllPairs-with_changed_item}
 use Rattle.style_data.specs.Kept.{IsCompletedFor, IsKeptFor}
 use Rattle.style_data.specs.TransitionSets.{AreTransitions, ComesLast, TransitionSet, transition_set, with_seen}
-use Rattle.style_data.specs.ByProperty.{IsBefore}
+use Rattle.computed_style.specs.ByProperty.{IsBefore}
 
 after : (m n : ℕ) → m < n → n ≡ m → ⊥
 after m n less e = omega arith

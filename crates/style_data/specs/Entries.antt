@@ -3,9 +3,9 @@ use Rattle.std.specs.Prelude.{ℕ, ◌<◌, Bool, false, List, [], AllPairs}
 use Rattle.style_data.specs.declared.animation.AnimationState.{AnimationState}
 use Rattle.style_data.specs.declared.gone.Gone.{Gone}
 use Rattle.style_data.specs.declared.transition.Phase.{Phase}
-use Rattle.style_data.specs.Styles.{ComputedStyle, initial_style}
+use Rattle.computed_style.specs.Styles.{ComputedStyle, initial_style}
 use Rattle.style_data.specs.TransitionSets.{TransitionSet, with_changed_item, no_transitions}
-use Rattle.style_data.specs.Winners.{Declarations, no_declarations}
+use Rattle.computed_style.specs.Winners.{Declarations, no_declarations}
 
 -- the animations ascend by their places in the list of names
 abbrev pub AreAscending : List AnimationState → Type 0

@@ -1,12 +1,6 @@
 pub mod Animations
-pub mod ByProperty
-pub mod ComputedStyles
-pub mod DeclaredItems
 pub mod Entries
 pub mod Events
 pub mod Kept
-pub mod KeptDeclarations
-pub mod Styles
 pub mod TransitionSets
 pub mod Transitions
-pub mod Winners

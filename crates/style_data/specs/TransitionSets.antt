@@ -2,7 +2,7 @@
 use Rattle.std.specs.Prelude.{◌≢◌, ℕ, zero, suc, ◌<◌, List, [], ◌∷◌, ◌++◌, All, AllPairs, Option, None, Some}
 use Rattle.value_types.specs.Properties.{number_of}
 use Rattle.value_types.specs.declared.property.PropertyId.{PropertyId}
-use Rattle.style_data.specs.ByProperty.{IsBefore, kept_for}
+use Rattle.computed_style.specs.ByProperty.{IsBefore, kept_for}
 use Rattle.style_data.specs.declared.transition.Completed.{Completed}
 use Rattle.style_data.specs.declared.transition.Phase.{Phase}
 use Rattle.style_data.specs.declared.transition.Transition.{Transition}

@@ -6,11 +6,10 @@ ghost use Rattle.style_data.specs.Kept.{IsCompletedFor, IsKeptFor};
 ghost use Rattle.style_data.specs.TransitionSets.{AreTransitions, completed_of, running_of, with_seen};
 
 use crate::animation::Animation;
-use crate::declared_set::DeclaredSet;
 use crate::effects::{BoxedEffects, Effects};
 use crate::gone::Gone;
-use crate::style::Style;
 use crate::transition::{Completed, Phase, Running};
+use computed_style::{DeclaredSet, Style};
 use std::alloc::{AllocError, Global};
 use std::marker::Model;
 use value_types::{PropertyId, Same};

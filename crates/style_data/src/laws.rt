@@ -4,15 +4,7 @@ ghost use Rattle.std.specs.Prelude.{◌≡◌, ◌↔◌, ◌⊎◌, Contains, I
 ghost use Rattle.value_types.specs.declared.property.PropertyId.{PropertyId};
 ghost use Rattle.style_data.specs.declared.transition.Completed.{Completed};
 ghost use Rattle.style_data.specs.declared.transition.Transition.{Transition};
-ghost use Rattle.style_data.specs.ComputedStyles.{StyleSources, computed_style, computed_value};
-ghost use Rattle.style_data.specs.Styles.{AreInherited, AreValid, initial_inherited, initial_values, value_of};
 ghost use Rattle.style_data.specs.TransitionSets.{AreTransitions, TransitionSet, completed_of, running_of};
-
-/// The initial values are a style, and may be inherited.
-pub fn initial_values_are_inherited()
-    ensures style { AreValid initial_values }
-    ensures inherited { AreInherited initial_inherited }
-{}
 
 /// A transition that is kept for a property is the one which a look-up by the property gives.
 pub fn lookup_is_membership()
@@ -25,9 +17,4 @@ pub fn lookup_is_membership()
 /// A property never has both a running and a completed transition.
 pub fn never_both()
     ensures { (t : TransitionSet) (p : PropertyId) → AreTransitions t → IsNone (running_of t p) ⊎ IsNone (completed_of t p) }
-{}
-
-/// A computed style has of each property the value that the table of precedence gives it.
-pub fn computed_value_by_property()
-    ensures { (x : StyleSources) (p : PropertyId) → value_of (computed_style x) p ≡ computed_value x p }
 {}

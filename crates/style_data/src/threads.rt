@@ -1,10 +1,8 @@
 //! What may be shared between threads.
 
-use crate::declared_set::{DeclaredSet, Winning};
 use crate::effects::Effects;
 use crate::entry::Entry;
-use crate::inherited::Down;
-use crate::style::Style;
+use computed_style::{DeclaredSet, Down, Style, Winning};
 
 fn may_be_shared<T: Send + Sync + Drop>() {}
 

@@ -1,7 +1,7 @@
 //! The transitions of an element.
 
 ghost use Rattle.std.specs.Prelude.{◌≡◌, ◌<◌, ◌⊎◌, ◌↔◌, IsNone, IsTrue, IfOk, IfSome, None, OnErr, OnOk, Some, length};
-ghost use Rattle.style_data.specs.ByProperty.{kept_for};
+ghost use Rattle.computed_style.specs.ByProperty.{kept_for};
 ghost use Rattle.style_data.specs.TransitionSets.{AreTransitions, ComesLast, completed_of, kept_with, no_transitions, running_of, seen_at, with_seen};
 ghost use Rattle.style_data.specs.Kept.{IsCompletedFor, IsKeptFor};
 

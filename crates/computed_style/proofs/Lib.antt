@@ -1,0 +1,6 @@
+pub mod ByIndex
+pub mod DeclarationLemmas
+pub mod EveryProperty
+pub mod Lookups
+pub mod StyleLemmas
+pub mod Tables

@@ -1,0 +1,312 @@
+//! The winning declarations of an element.
+
+ghost use Rattle.std.specs.Prelude.{◌≡◌, ◌↔◌, [], ◌∷◌, IsTrue, IfOk, IfSome, OnErr, OnOk, option_copied};
+ghost use Rattle.std.specs.Bool.{OnTrue};
+ghost use Rattle.value_types.specs.ListValues.{IsListValueFor};
+ghost use Rattle.value_types.specs.Validity.{IsDeclaredFor};
+ghost use Rattle.computed_style.specs.ByProperty.{kept_for};
+ghost use Rattle.computed_style.specs.Winners.{AreDeclarations, AreWinnersFor, kept_for_list, list_winner_of, list_winners_of, no_declarations, place_of, winners_of, with_declaration, with_list_declaration};
+
+use crate::winners::Winners;
+use std::alloc::{AllocError, Global};
+use std::marker::Model;
+use value_types::{Declared, ListName, ListValue, PropertyId, Same, Shared};
+
+/// Winning declarations as they are collected: begin with none, put those that win, and finish. Contracts see
+/// them as the winners of each property and of each timing list.
+#[derive(Drop)]
+pub struct Winning {
+    important: Vec<(PropertyId, Declared)>,
+    normal: Vec<(PropertyId, Declared)>,
+    important_lists: Vec<(ListName, ListValue)>,
+    normal_lists: Vec<(ListName, ListValue)>,
+}
+
+impl Model for Winning {
+    ghost use Rattle.computed_style.specs.Winners.{Declarations};
+
+    ghost Value = { Declarations };
+
+    ghost use Rattle.computed_style.specs.KeptDeclarations.{AreKept, declarations_in};
+
+    ghost view = { λ w. declarations_in w.important.items w.normal.items w.important_lists.items w.normal_lists.items };
+
+    ghost invariant = { λ w. AreKept w.important.items w.normal.items w.important_lists.items w.normal_lists.items };
+}
+
+impl Winning {
+    /// No declaration wins. Takes no memory.
+    pub fn new(alloc: Global) -> Winning
+        ensures { result ≡ no_declarations }
+    {
+        Winning {
+            important: Vec::new(alloc),
+            normal: Vec::new(alloc),
+            important_lists: Vec::new(alloc),
+            normal_lists: Vec::new(alloc),
+        }
+    }
+
+    /// Makes this declaration win among the important or the normal ones of the property. Where memory runs out
+    /// the winners stay as they were.
+    pub fn put(
+        &mut self,
+        p: PropertyId,
+        important: bool,
+        declared: Declared,
+    ) -> Result<(), AllocError>
+        requires { IsDeclaredFor p declared }
+        ensures ok { OnOk result (self.new ≡ with_declaration self.old p important declared) }
+        ensures err { OnErr result (self.new ≡ self.old) }
+    {
+        if important {
+            put_first(&mut self.important, (p, declared))
+        } else {
+            put_first(&mut self.normal, (p, declared))
+        }
+    }
+
+    /// Makes this declaration win among the important or the normal ones of the timing list. Where memory runs
+    /// out the winners stay as they were.
+    pub fn put_list(
+        &mut self,
+        name: ListName,
+        important: bool,
+        value: ListValue,
+    ) -> Result<(), AllocError>
+        requires { IsListValueFor name value }
+        ensures ok { OnOk result (self.new ≡ with_list_declaration self.old name important value) }
+        ensures err { OnErr result (self.new ≡ self.old) }
+    {
+        if important {
+            put_first(&mut self.important_lists, (name, value))
+        } else {
+            put_first(&mut self.normal_lists, (name, value))
+        }
+    }
+
+    /// The declarations, to be shared. Takes no memory where there is none.
+    pub fn finish(self, alloc: Global) -> Result<DeclaredSet, AllocError>
+        ensures { IfOk result (λ d. d ≡ self) }
+    {
+        if self.is_empty() {
+            return Ok(DeclaredSet::empty());
+        }
+        Ok(DeclaredSet {
+            set: Some(Shared::new(alloc, self)?),
+        })
+    }
+
+    fn is_empty(&self) -> bool
+        ensures { OnTrue result (self.now ≡ no_declarations) }
+    {
+        if !has_none(&self.important) {
+            return false;
+        }
+        if !has_none(&self.normal) {
+            return false;
+        }
+        if !has_none(&self.important_lists) {
+            return false;
+        }
+        has_none(&self.normal_lists)
+    }
+
+    fn winners(&self, p: PropertyId) -> Winners
+        ensures value { result ≡ winners_of self.now p }
+        ensures bounds { AreDeclarations self.now }
+    {
+        Winners {
+            important: declared_for(self.important.as_slice(), p),
+            normal: declared_for(self.normal.as_slice(), p),
+        }
+    }
+
+    fn list(&self, name: ListName, important: bool) -> Option<&ListValue>
+        ensures value { option_copied result ≡ list_winner_of self.now name important }
+        ensures bounds { IfSome result (λ v. IsListValueFor name v.now) }
+        ensures all { AreDeclarations self.now }
+    {
+        if important {
+            list_for(self.important_lists.as_slice(), name)
+        } else {
+            list_for(self.normal_lists.as_slice(), name)
+        }
+    }
+}
+
+/// The winning declarations of an element, of each property and of each timing list (CSS Cascade 5, section
+/// 6), shared and never changed. What wins is a declared value of its property, or of its list. Where nothing
+/// is declared it takes no memory.
+#[derive(Drop)]
+pub struct DeclaredSet {
+    /// None where nothing is declared.
+    set: Option<Shared<Winning>>,
+}
+
+impl Model for DeclaredSet {
+    ghost use Rattle.std.specs.Prelude.{unwrap_or};
+    ghost use Rattle.computed_style.specs.Winners.{Declarations, no_declarations};
+
+    ghost Value = { Declarations };
+
+    ghost view = { λ d. unwrap_or d.set no_declarations };
+}
+
+impl DeclaredSet {
+    /// That of an element without declarations. Takes no memory.
+    pub fn empty() -> DeclaredSet
+        ensures { result ≡ no_declarations }
+    {
+        DeclaredSet { set: None }
+    }
+
+    /// The winners of a property.
+    pub fn winners(&self, p: PropertyId) -> Winners
+        ensures value { result ≡ winners_of self.now p }
+        ensures bounds { AreWinnersFor p result }
+        ensures all { AreDeclarations self.now }
+    {
+        match &self.set {
+            None => Winners {
+                important: None,
+                normal: None,
+            },
+            Some(winning) => winning.get().winners(p),
+        }
+    }
+
+    /// The winner of a timing list among the important or the normal declarations; `None` where none of them
+    /// declares it.
+    pub fn list(&self, name: ListName, important: bool) -> Option<&ListValue>
+        ensures value { option_copied result ≡ list_winner_of self.now name important }
+        ensures bounds { IfSome result (λ v. IsListValueFor name v.now) }
+        ensures all { AreDeclarations self.now }
+    {
+        match &self.set {
+            None => None,
+            Some(winning) => winning.get().list(name, important),
+        }
+    }
+
+    /// The same declarations again. Takes no memory.
+    pub fn copy(&self) -> Result<DeclaredSet, AllocError>
+        ensures { IfOk result (λ d. d ≡ self.now) }
+    {
+        match &self.set {
+            None => Ok(DeclaredSet::empty()),
+            Some(winning) => Ok(DeclaredSet {
+                set: Some(winning.copy()?),
+            }),
+        }
+    }
+}
+
+/// Puts an item before the others.
+fn put_first<T: Drop>(list: &mut Vec<T>, item: T) -> Result<(), AllocError>
+    ensures ok { OnOk result (list.new.items ≡ item ∷ list.old.items) }
+    ensures err { OnErr result (list.new.items ≡ list.old.items) }
+{
+    list.insert(0, item)?;
+    Ok(())
+}
+
+fn has_none<T>(list: &Vec<T>) -> bool
+    ensures { OnTrue result (list.now.items ≡ []) }
+{
+    list.is_empty()
+}
+
+/// The timing lists, by their places.
+const LISTS: [ListName; 12] = [
+    ListName::TransitionProperty,
+    ListName::TransitionDuration,
+    ListName::TransitionDelay,
+    ListName::TransitionEasing,
+    ListName::AnimationName,
+    ListName::AnimationDuration,
+    ListName::AnimationDelay,
+    ListName::AnimationEasing,
+    ListName::AnimationCount,
+    ListName::AnimationDirection,
+    ListName::AnimationFill,
+    ListName::AnimationPlayState,
+];
+
+impl Same for DeclaredSet {
+    fn is_same(&self, other: &DeclaredSet) -> bool {
+        have_same_properties(self, other) && have_same_lists(self, other)
+    }
+}
+
+fn have_same_properties(a: &DeclaredSet, b: &DeclaredSet) -> bool
+    ensures { IsTrue result ↔ (a.now.properties ≡ b.now.properties) }
+{
+    for p in &PropertyId::ALL {
+        if !have_same_winners(a, b, *p) {
+            return false;
+        }
+    }
+    true
+}
+
+fn have_same_winners(a: &DeclaredSet, b: &DeclaredSet, p: PropertyId) -> bool
+    ensures same { IsTrue result ↔ (winners_of a.now p ≡ winners_of b.now p) }
+    ensures all { AreDeclarations a.now × AreDeclarations b.now }
+{
+    a.winners(p).is_same(&b.winners(p))
+}
+
+fn have_same_lists(a: &DeclaredSet, b: &DeclaredSet) -> bool
+    ensures { IsTrue result ↔ (a.now.lists ≡ b.now.lists) }
+{
+    for name in &LISTS {
+        if !have_same_list(a, b, *name) {
+            return false;
+        }
+    }
+    true
+}
+
+fn have_same_list(a: &DeclaredSet, b: &DeclaredSet, name: ListName) -> bool
+    ensures same { IsTrue result ↔ (list_winners_of a.now name ≡ list_winners_of b.now name) }
+    ensures all { AreDeclarations a.now × AreDeclarations b.now }
+{
+    is_same_list(a.list(name, true), b.list(name, true))
+        && is_same_list(a.list(name, false), b.list(name, false))
+}
+
+fn is_same_list(a: Option<&ListValue>, b: Option<&ListValue>) -> bool
+    ensures { IsTrue result ↔ (option_copied a.entry ≡ option_copied b.entry) }
+{
+    match (a, b) {
+        (None, None) => true,
+        (Some(a), Some(b)) => a.is_same(b),
+        _ => false,
+    }
+}
+
+fn declared_for(declared: &[(PropertyId, Declared)], p: PropertyId) -> Option<Declared>
+    ensures { result ≡ kept_for p declared.now }
+{
+    declared
+        .iter()
+        .find(|item| item.0.number() == p.number())
+        .map(|item| item.1)
+}
+
+fn list_for(declared: &[(ListName, ListValue)], name: ListName) -> Option<&ListValue>
+    ensures { option_copied result ≡ kept_for_list name declared.now }
+{
+    declared
+        .iter()
+        .find(|item| place_of(item.0) == place_of(name))
+        .map(|item| &item.1)
+}
+
+/// The place of a timing list among the twelve.
+fn place_of(name: ListName) -> usize
+    ensures { result ≡ place_of name }
+{
+    name as usize
+}

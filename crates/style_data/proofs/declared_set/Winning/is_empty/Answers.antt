@@ -1,9 +1,0 @@
-use Rattle.std.specs.Prelude.{◌≡◌, []}
-use Rattle.style_data.proofs.DeclarationLemmas.{OnTrue-then, none_declared}
-use Rattle.style_data.proofs.declared_set.Winning.is_empty.Goals as goal
-
-pub returns : goal.returns
-returns c =
-    OnTrue-then c.has_none-4.result
-    (λ (none : c.self.inside.normal_lists.items ≡ []). rw (← c.self.view_is, c.if-not-has_none.ensures, c.if-not-has_none-2.ensures, c.if-not-has_none-3.ensures, none) none_declared)
-    c.has_none-4.ensures

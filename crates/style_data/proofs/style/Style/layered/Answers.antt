@@ -1,9 +1,0 @@
-use Rattle.std.specs.Prelude.{unwrap_or}
-use Rattle.style_data.specs.Styles.{initial_style}
-use Rattle.style_data.proofs.StyleLemmas.{values_with-append}
-use Rattle.style_data.proofs.style.Style.layered.Goals as goal
-
-pub returns : goal.returns
-returns c =
-    rw (c.in_ok-copy_base.ensures, c.in_ok-given.ensures, c.as_slice.ensures, ← c.base.view_is)
-    (rw (values_with-append (unwrap_or c.base.inside.base initial_style).values c.args.given.now c.base.inside.given.items))
