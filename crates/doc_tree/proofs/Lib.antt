@@ -8,6 +8,7 @@ mod Tours
 mod Standing
 mod Spans
 mod Sound
+mod Siblings
 mod Putting
 mod Adding
 mod Removing

@@ -1,4 +1,5 @@
 pub mod Element
+pub mod Children
 pub mod Shape
 pub mod Fault
 pub mod Change

@@ -1,9 +1,10 @@
 //! What holds of every document that is a tree, and of every add, by their definitions alone.
 
-ghost use Rattle.std.specs.Prelude.{◌≡◌, ℕ, ◌==◌, not, true, false, List, [], ◌∷◌, ◌++◌, length, IsTrue, ◌≢◌, ◌↔◌, Result, Option};
+ghost use Rattle.std.specs.Prelude.{◌≡◌, ℕ, ◌==◌, not, true, false, List, [], ◌∷◌, ◌++◌, length, IsTrue, ◌≢◌, ◌↔◌, Result, Option, Some, None};
 ghost use Rattle.std.specs.List.{filter, list_any};
 ghost use Rattle.std.specs.Option.{option_map_or};
 ghost use Rattle.doc_tree.specs.Change.{without, IsAdded, IsCut, IsInserted};
+ghost use Rattle.doc_tree.specs.Children.{children_of, first_child_of, next_sibling_of};
 ghost use Rattle.doc_tree.specs.Element.{Document, Element, is_in, is_used, inclusive_ancestors, is_inclusive_descendant, position_of, subtree_of};
 ghost use Rattle.doc_tree.specs.Fault.{Answers};
 ghost use Rattle.doc_tree.specs.Shape.{IsTree};
@@ -44,6 +45,23 @@ pub fn subtrees_stand_together()
         → IsTree d → d.elements ≡ before ++ e ∷ after
         → IsTrue (is_in a before) → is_inclusive_descendant d.elements a e.number ≡ false
         → list_any (λ later. is_inclusive_descendant d.elements a later.number) after ≡ false }
+{}
+
+/// The first child of an element is the first of its children.
+pub fn first_children_lead()
+    ensures child { (es : List Element) (n : ℕ) (first : Element) (others : List Element)
+        → children_of es n ≡ first ∷ others → first_child_of n es ≡ Some first.number }
+    ensures none { (es : List Element) (n : ℕ) → children_of es n ≡ [] → first_child_of n es ≡ None }
+{}
+
+/// The next sibling of each child is the child after it, and the last child has none: they go over all children.
+pub fn next_siblings_go_over_children()
+    ensures next { (d : Document) (n : ℕ) (before after : List Element) (child sibling : Element)
+        → IsTree d → children_of d.elements n ≡ before ++ child ∷ sibling ∷ after
+        → next_sibling_of child.number d.elements ≡ Some sibling.number }
+    ensures last { (d : Document) (n : ℕ) (before : List Element) (child : Element)
+        → IsTree d → children_of d.elements n ≡ before ++ child ∷ []
+        → next_sibling_of child.number d.elements ≡ None }
 {}
 
 /// An add has one outcome.

@@ -14,6 +14,7 @@
 
 mod add;
 mod change;
+mod children;
 mod element;
 mod fault;
 pub mod laws;

@@ -3,12 +3,14 @@
 ghost use Rattle.std.specs.Prelude.{◌≡◌, ◌≤◌, ◌<◌, ◌↔◌, [], ◌∷◌, map, length, is_some, slice_get, IfOk, IfSome, IsTrue, OnOk, OnErr, option_map, option_copied};
 ghost use Rattle.std.specs.Option.{option_map_or};
 ghost use Rattle.doc_tree.specs.Element.{depth_of, element_of, inclusive_ancestors, is_in, numbers_of, parent_of, position_of, style_of, subtree_end_of, subtree_of};
+ghost use Rattle.doc_tree.specs.Children.{first_child_of, next_sibling_of};
 ghost use Rattle.doc_tree.specs.Shape.{IsTree, IsWithinLimits};
 ghost use Rattle.doc_tree.specs.Change.{empty_document, new_element, with_classes, with_id, with_style, without, IsAdded, IsInserted};
 ghost use Rattle.doc_tree.specs.Fault.{Answers, fault_of_add, fault_of_change, fault_of_classes, fault_of_insert};
 
 use crate::add::{add_node, insert_node};
 use crate::change::{set_classes_of, set_id_of, set_style_of};
+use crate::children::{first_child_in, next_sibling_in};
 use crate::element::Element;
 use crate::fault::TreeFault;
 use crate::limits::{MAX_CLASSES, MAX_STYLE_BYTES};
@@ -186,6 +188,22 @@ impl Tree {
             None => None,
             Some(node) => node.element.parent(),
         }
+    }
+
+    /// The number of the first child of element `n`; `None` where it has no child, or isn't in the tree (DOM, "first
+    /// child"). A look-up and constant work, whatever was edited before.
+    pub fn first_child(&self, n: u32) -> Option<u32>
+        ensures { result ≡ first_child_of n self.now.elements }
+    {
+        first_child_in(&self.nodes, n)
+    }
+
+    /// The number of the next sibling of element `n`; `None` where it is the last child or the root, or isn't in the
+    /// tree (DOM, "next sibling"). A look-up and constant work: with [`Tree::first_child`] it goes over all children.
+    pub fn next_sibling(&self, n: u32) -> Option<u32>
+        ensures { result ≡ next_sibling_of n self.now.elements }
+    {
+        next_sibling_in(&self.nodes, n)
     }
 
     /// How deep element `n` lies, 1 for the root; `None` where it isn't in the tree.

@@ -110,6 +110,45 @@ fn removes_with_all_below(rt: HostRuntime) -> Result<(), Fail> {
 }
 
 #[test]
+fn goes_over_children(rt: HostRuntime) -> Result<(), Fail> {
+    let mut tree = Tree::new(rt.alloc())?;
+    assert!(rt; tree.first_child(1) == None);
+    add(
+        &mut tree,
+        &rt,
+        &[
+            (1, None, Ok(())),
+            (2, Some(1), Ok(())),
+            (3, Some(2), Ok(())),
+            (4, Some(3), Ok(())),
+            (5, Some(2), Ok(())),
+            (6, Some(1), Ok(())),
+            (7, Some(1), Ok(())),
+        ],
+    );
+    assert!(rt; tree.insert(8, 2, "b") == Ok(()));
+    assert!(rt; tree.insert(9, 7, "b") == Ok(()));
+    let removed = tree.remove(6)?;
+    assert!(rt; removed.as_slice() == [6].as_slice());
+    for (n, child, sibling) in &[
+        (1, Some(8), None),
+        (8, None, Some(2)),
+        (2, Some(3), Some(9)),
+        (3, Some(4), Some(5)),
+        (4, None, None),
+        (5, None, None),
+        (9, None, Some(7)),
+        (7, None, None),
+        (6, None, None),
+        (10, None, None),
+    ] {
+        assert!(rt; tree.first_child(*n) == *child);
+        assert!(rt; tree.next_sibling(*n) == *sibling);
+    }
+    Ok(())
+}
+
+#[test]
 fn keeps_texts(rt: HostRuntime) -> Result<(), Fail> {
     let mut tree = Tree::new(rt.alloc())?;
     add(&mut tree, &rt, &[(1, None, Ok(())), (2, Some(1), Ok(()))]);
