@@ -1,7 +1,7 @@
 //! The loops.
 ghost use Rattle.std.specs.Prelude.{◌≤◌, ◌^◌, pos, ◌≤ℤ◌};
 ghost use Rattle.style_data.specs.Transitions.{IsMoment};
-ghost use Rattle.value_types.specs.Timing.{IsEasing};
+ghost use Rattle.timing_types.specs.Timing.{IsEasing};
 ghost use Rattle.value_types.specs.declared.property.PropertyId.{PropertyId};
 
 use crate::entries::fade;
@@ -12,7 +12,8 @@ use list_text::read_list;
 use std::alloc::Global;
 use transition_list::{Match, MatchedItem};
 use transition_start::decide;
-use value_types::{Easing, ListName, PropertyId, Value};
+use timing_types::Easing;
+use value_types::{ListName, PropertyId, Value};
 
 /// A list of thirty-two easings, of 910 bytes.
 const EASINGS: &str =

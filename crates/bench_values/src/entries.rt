@@ -9,7 +9,8 @@ use std::alloc::{AllocError, Global};
 use style_data::{
     DeclaredSet, Effects, Entry, Phase, Running, Style, Transition, Transitions, Winning,
 };
-use value_types::{Declared, Easing, PropertyId, Value, initial_value};
+use timing_types::Easing;
+use value_types::{Declared, PropertyId, Value, initial_value};
 
 /// So many entries of elements that no frame has styled.
 pub(crate) fn fresh(alloc: Global, count: u64) -> Result<usize, AllocError> {

@@ -6,7 +6,8 @@ use Rattle.fix_num.specs.declared.units.Fix.{Fix}
 use Rattle.computed_value.specs.Absolute.{absolute_of}
 use Rattle.value_types.specs.Properties.{all_properties}
 use Rattle.value_types.specs.Table.{fix, initial_value}
-use Rattle.value_types.specs.TimingLists.{AnimationValues, TransitionValues, animation_values, initial_animations, initial_transitions, transition_values}
+use Rattle.timing_types.specs.TimingLists.{AnimationValues, animation_values, initial_animations}
+use Rattle.value_types.specs.TransitionLists.{TransitionValues, initial_transitions, transition_values}
 use Rattle.value_types.specs.declared.declared.Declared.{Declared}
 use Rattle.value_types.specs.declared.declared.Declared.TheVariants.{Inherit}
 use Rattle.value_types.specs.declared.list_value.ListName.{ListName}

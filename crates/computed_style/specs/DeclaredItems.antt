@@ -1,14 +1,14 @@
 -- The items that a declaration gives a timing list, and these others where it gives none.
 use Rattle.std.specs.Prelude.{ℕ, List, Option, Some}
 use Rattle.fix_num.specs.declared.units.Micros.{Micros}
-use Rattle.value_types.specs.declared.easing.Easing.{Easing}
+use Rattle.timing_types.specs.declared.easing.Easing.{Easing}
 use Rattle.value_types.specs.declared.list_value.ListValue.{ListValue}
 use Rattle.value_types.specs.declared.list_value.ListValue.TheVariants.{Properties, Times, Easings, Names, Counts, Directions, Fills, States}
 use Rattle.value_types.specs.declared.shorthand.PropertyItem.{PropertyItem}
-use Rattle.value_types.specs.declared.timing.Count.{Count}
-use Rattle.value_types.specs.declared.timing.Direction.{Direction}
-use Rattle.value_types.specs.declared.timing.Fill.{Fill}
-use Rattle.value_types.specs.declared.timing.PlayState.{PlayState}
+use Rattle.timing_types.specs.declared.timing.Count.{Count}
+use Rattle.timing_types.specs.declared.timing.Direction.{Direction}
+use Rattle.timing_types.specs.declared.timing.Fill.{Fill}
+use Rattle.timing_types.specs.declared.timing.PlayState.{PlayState}
 
 -- the items of transition-property
 abbrev pub properties_or : List PropertyItem → Option ListValue → List PropertyItem

@@ -4,7 +4,8 @@ use Rattle.fix_num.specs.declared.units.Fix.{Fix}
 use Rattle.value_types.specs.Properties.{all_properties, number_of}
 use Rattle.value_types.specs.Ranges.{IsSize}
 use Rattle.value_types.specs.Table.{fix, initial_value}
-use Rattle.value_types.specs.TimingLists.{AnimationValues, TransitionValues, initial_animations, initial_transitions}
+use Rattle.timing_types.specs.TimingLists.{AnimationValues, initial_animations}
+use Rattle.value_types.specs.TransitionLists.{TransitionValues, initial_transitions}
 use Rattle.value_types.specs.Validity.{IsValid}
 use Rattle.value_types.specs.declared.property.PropertyId.{PropertyId}
 use Rattle.value_types.specs.declared.property.PropertyId.TheVariants.{Color, FontSize, LetterSpacing, Visibility}

@@ -10,7 +10,8 @@ ghost use Rattle.computed_style.specs.Winners.{AreDeclarations, AreWinnersFor, k
 use crate::winners::Winners;
 use std::alloc::{AllocError, Global};
 use std::marker::Model;
-use value_types::{Declared, ListName, ListValue, PropertyId, Same, Shared};
+use timing_types::Same;
+use value_types::{Declared, ListName, ListValue, PropertyId, Shared};
 
 /// Winning declarations as they are collected: begin with none, put those that win, and finish. Contracts see
 /// them as the winners of each property and of each timing list.

@@ -1,14 +1,13 @@
 //! Equality of styles and declarations.
 
 ghost use Rattle.std.specs.Prelude.{◌≡◌, ◌↔◌, ◌∷◌, [], IsTrue, option_copied, unwrap_or};
-ghost use Rattle.value_types.specs.TimingLists.{initial_animations, initial_transitions};
+ghost use Rattle.timing_types.specs.TimingLists.{initial_animations};
+ghost use Rattle.value_types.specs.TransitionLists.{initial_transitions};
 
 use crate::winners::Winners;
 use fix_num::{Fix, Micros};
-use value_types::{
-    AnimationLists, Count, Direction, Easing, Fill, Name, PlayState, PropertyItem, Same,
-    TransitionLists,
-};
+use timing_types::{AnimationLists, Count, Direction, Easing, Fill, Name, PlayState, Same};
+use value_types::{PropertyItem, TransitionLists};
 
 impl Same for Winners {
     fn is_same(&self, other: &Winners) -> bool {

@@ -1,7 +1,8 @@
 //! Computed styles.
 
 ghost use Rattle.std.specs.Prelude.{◌≡◌, IfOk, option_copied, unwrap_or, ◌++◌, ◌↔◌, IsTrue};
-ghost use Rattle.value_types.specs.TimingLists.{initial_animations, initial_transitions};
+ghost use Rattle.timing_types.specs.TimingLists.{initial_animations};
+ghost use Rattle.value_types.specs.TransitionLists.{initial_transitions};
 ghost use Rattle.value_types.specs.Ranges.{IsSize};
 ghost use Rattle.value_types.specs.Validity.{IsValid};
 ghost use Rattle.computed_style.specs.ByProperty.{kept_for};
@@ -14,9 +15,8 @@ use interpolation::same;
 use smallvec::SmallVec;
 use std::alloc::{AllocError, Global};
 use std::marker::Model;
-use value_types::{
-    AnimationLists, PropertyId, Same, Shared, TransitionLists, Value, initial_value,
-};
+use timing_types::{AnimationLists, Same};
+use value_types::{PropertyId, Shared, TransitionLists, Value, initial_value};
 
 /// The values and lists of a style, as they are shared. A list that is left out is initial.
 #[derive(Drop)]
@@ -28,7 +28,8 @@ struct Base {
 
 impl Model for Base {
     ghost use Rattle.std.specs.Prelude.{unwrap_or};
-    ghost use Rattle.value_types.specs.TimingLists.{initial_animations, initial_transitions};
+    ghost use Rattle.timing_types.specs.TimingLists.{initial_animations};
+    ghost use Rattle.value_types.specs.TransitionLists.{initial_transitions};
     ghost use Rattle.computed_style.specs.Styles.{ComputedStyle, AreValid, style_of_values};
 
     ghost Value = { ComputedStyle };

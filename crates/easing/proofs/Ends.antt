@@ -5,10 +5,10 @@ use Rattle.std.specs.Int.{int_min, int_max}
 use Rattle.std.proofs.lemmas.Int.{ints, clamps}
 use Rattle.std.proofs.Math.Nat.{zero-div, mul-div_cancel_left}
 use Rattle.fix_num.specs.Rounding.{rounded_quotient}
-use Rattle.value_types.specs.Timing.{IsEasing, fewest_steps}
-use Rattle.value_types.specs.declared.easing.Easing.TheVariants.{Linear, Cubic, Steps}
-use Rattle.value_types.specs.declared.easing.Jump.{Jump}
-use Rattle.value_types.specs.declared.easing.Jump.TheVariants.{Start, End, Both, Nowhere}
+use Rattle.timing_types.specs.Timing.{IsEasing, fewest_steps}
+use Rattle.timing_types.specs.declared.easing.Easing.TheVariants.{Linear, Cubic, Steps}
+use Rattle.timing_types.specs.declared.easing.Jump.{Jump}
+use Rattle.timing_types.specs.declared.easing.Jump.TheVariants.{Start, End, Both, Nowhere}
 use Rattle.easing.specs.Bezier.{coordinate, input_billionths, ordinate_output, parameter_of, parts, whole, IsParameter}
 use Rattle.easing.specs.Billionths.{billionths}
 use Rattle.easing.specs.Easings.{output_of}

@@ -7,11 +7,11 @@ use Rattle.std.proofs.lemmas.Bool.{cases_lt, false≢true}
 use Rattle.std.proofs.lemmas.Bool.Decides.{Decides-int_eq}
 use Rattle.std.proofs.lemmas.Int.{ints, clamps}
 use Rattle.std.proofs.Math.Nat.{mul-le-mul_left, mul-le-mul_right}
-use Rattle.value_types.specs.Timing.{IsEasing, fewest_steps}
-use Rattle.value_types.specs.declared.easing.Easing.{Easing}
-use Rattle.value_types.specs.declared.easing.Easing.TheVariants.{Linear, Cubic, Steps}
-use Rattle.value_types.specs.declared.easing.Jump.{Jump}
-use Rattle.value_types.specs.declared.easing.Jump.TheVariants.{Start, End, Both, Nowhere}
+use Rattle.timing_types.specs.Timing.{IsEasing, fewest_steps}
+use Rattle.timing_types.specs.declared.easing.Easing.{Easing}
+use Rattle.timing_types.specs.declared.easing.Easing.TheVariants.{Linear, Cubic, Steps}
+use Rattle.timing_types.specs.declared.easing.Jump.{Jump}
+use Rattle.timing_types.specs.declared.easing.Jump.TheVariants.{Start, End, Both, Nowhere}
 use Rattle.easing.specs.Bezier.{coordinate, input_billionths, parameter_of, whole}
 use Rattle.fix_num.specs.Fractions.{IsFraction}
 use Rattle.easing.specs.Easings.{output_of, KeepsUnit}

@@ -1,7 +1,7 @@
 -- The output of an easing function, after CSS Easing Functions Level 1, "Easing functions".
 use Rattle.std.specs.Prelude.{ℤ, pos, Bool, ⊤}
-use Rattle.value_types.specs.declared.easing.Easing.{Easing}
-use Rattle.value_types.specs.declared.easing.Easing.TheVariants.{Linear, Cubic, Steps}
+use Rattle.timing_types.specs.declared.easing.Easing.{Easing}
+use Rattle.timing_types.specs.declared.easing.Easing.TheVariants.{Linear, Cubic, Steps}
 use Rattle.easing.specs.Billionths.{billionths}
 use Rattle.easing.specs.Bezier.{input_billionths, parameter_of, ordinate_output, IsUnitCoordinate}
 use Rattle.easing.specs.Stepping.{jumps_of, step_of}

@@ -2,8 +2,8 @@
 use Rattle.std.specs.Prelude.{ℕ, ◌+◌, ◌-◌, ℤ, pos, ◌+ℤ◌, ◌-ℤ◌, ◌*ℤ◌, Bool, ◌&&◌, if◌then◌else◌}
 use Rattle.std.specs.Int.{int_div_euclid, int_rem_euclid, int_min, int_max}
 use Rattle.std.specs.Ordering.{int_eq}
-use Rattle.value_types.specs.declared.easing.Jump.{Jump}
-use Rattle.value_types.specs.declared.easing.Jump.TheVariants.{Start, End, Both, Nowhere}
+use Rattle.timing_types.specs.declared.easing.Jump.{Jump}
+use Rattle.timing_types.specs.declared.easing.Jump.TheVariants.{Start, End, Both, Nowhere}
 
 -- how many jumps make up the way from 0 to 1
 abbrev pub jumps_of : Jump → ℕ → ℕ

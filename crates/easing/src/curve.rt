@@ -1,7 +1,7 @@
 //! Cubic Bezier curves.
 ghost use Rattle.std.specs.Prelude.{◌≡◌, ◌↔◌, ◌<◌, ◌≤◌, ◌*◌, ◌^◌, ℤ, pos, ◌*ℤ◌, ◌≤ℤ◌, ◌<ℤ◌, unsigned_abs, IsTrue};
-ghost use Rattle.value_types.specs.Timing.{IsControlPoint};
-ghost use Rattle.value_types.specs.declared.limits.TheConstants.{MAX_ORDINATE};
+ghost use Rattle.timing_types.specs.Timing.{IsControlPoint};
+ghost use Rattle.timing_types.specs.declared.limits.TheConstants.{MAX_ORDINATE};
 ghost use Rattle.easing.specs.Bezier.{coordinate, input_billionths, ordinate_output, parameter_of, parts, whole, IsParameter, IsReached, IsUnitCoordinate};
 
 use crate::units::{ONE, billionths};

@@ -1,13 +1,13 @@
 //! Step easing functions.
 ghost use Rattle.std.specs.Prelude.{◌≡◌, ◌+◌, ◌<◌, ◌≤◌, ◌*◌, ◌^◌, ℤ, pos, ◌≤ℤ◌, ◌<ℤ◌, unsigned_abs};
-ghost use Rattle.value_types.specs.Timing.{fewest_steps};
-ghost use Rattle.value_types.specs.declared.limits.TheConstants.{MAX_STEPS};
+ghost use Rattle.timing_types.specs.Timing.{fewest_steps};
+ghost use Rattle.timing_types.specs.declared.limits.TheConstants.{MAX_STEPS};
 ghost use Rattle.easing.specs.Billionths.{billionths};
 ghost use Rattle.easing.specs.Stepping.{jumps_at_start, jumps_of, step_back, step_of};
 
 use crate::units::billionths;
 use fix_num::Bill;
-use value_types::Jump;
+use timing_types::Jump;
 
 /// The output of `count` steps at the input `num / den`.
 pub fn steps(count: u32, jump: Jump, num: i128, den: i128, before: bool) -> Bill

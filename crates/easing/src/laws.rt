@@ -1,14 +1,14 @@
 //! What the definitions say of outputs, as laws over every value.
 ghost use Rattle.std.specs.Prelude.{◌≡◌, ◌↔◌, ℕ, ◌^◌, ◌≤◌, ℤ, pos, ◌*ℤ◌, ◌≤ℤ◌, ◌<ℤ◌, Bool, false};
-ghost use Rattle.value_types.specs.Timing.{IsEasing, fewest_steps};
-ghost use Rattle.value_types.specs.declared.easing.Easing.{Easing};
-ghost use Rattle.value_types.specs.declared.easing.Jump.{Jump};
+ghost use Rattle.timing_types.specs.Timing.{IsEasing, fewest_steps};
+ghost use Rattle.timing_types.specs.declared.easing.Easing.{Easing};
+ghost use Rattle.timing_types.specs.declared.easing.Jump.{Jump};
 ghost use Rattle.easing.specs.Bezier.{coordinate, input_billionths, ordinate_output, parameter_of, parts, IsParameter, IsUnitCoordinate};
 ghost use Rattle.fix_num.specs.Fractions.{IsFraction};
 ghost use Rattle.easing.specs.Easings.{output_of, KeepsUnit};
 
 use fix_num::Bill;
-use value_types::Easing;
+use timing_types::Easing;
 
 /// Linear easings and curves give 0 at the input 0.
 pub fn starts_at_0()

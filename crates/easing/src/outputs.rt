@@ -1,6 +1,6 @@
 //! The output of an easing function.
 ghost use Rattle.std.specs.Prelude.{◌≡◌, ◌<◌, ◌≤◌, ◌^◌, ℤ, pos, ◌≤ℤ◌, ◌<ℤ◌, unsigned_abs};
-ghost use Rattle.value_types.specs.Timing.{IsEasing};
+ghost use Rattle.timing_types.specs.Timing.{IsEasing};
 ghost use Rattle.fix_num.specs.Fractions.{IsFraction};
 ghost use Rattle.easing.specs.Easings.{KeepsUnit, output_of};
 
@@ -8,7 +8,7 @@ use crate::curve::cubic;
 use crate::jumps::steps;
 use crate::units::billionths;
 use fix_num::Bill;
-use value_types::Easing;
+use timing_types::Easing;
 
 /// The output of an easing at the input `num / den`, which is from 0 to 1, in billionths (CSS Easing
 /// Functions Level 1, "Easing functions"). `before` is the before flag.

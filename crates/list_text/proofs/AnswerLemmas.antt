@@ -7,20 +7,20 @@ use Rattle.token_parts.specs.Parts.{TokenPart, Ident}
 use Rattle.token_parts.specs.declared.fault.ValueFault.{ValueFault}
 use Rattle.token_parts.specs.declared.fault.ValueFault.TheVariants.{Unsupported, BoundItems, Bound, NoMemory}
 use Rattle.value_types.specs.ListValues.{IsListValueFor}
-use Rattle.value_types.specs.Names.{IsNameItem}
-use Rattle.value_types.specs.Timing.{IsAny, IsCount, IsDelay, IsDuration, IsEasing}
-use Rattle.value_types.specs.TimingLists.{IsListOf}
+use Rattle.timing_types.specs.Names.{IsNameItem}
+use Rattle.timing_types.specs.Timing.{IsAny, IsCount, IsDelay, IsDuration, IsEasing}
+use Rattle.timing_types.specs.TimingLists.{IsListOf}
 use Rattle.value_types.specs.declared.list_value.ListName.{ListName}
 use Rattle.value_types.specs.declared.list_value.ListName.TheVariants as list
 use Rattle.value_types.specs.declared.list_value.ListValue.{ListValue}
 use Rattle.value_types.specs.declared.list_value.ListValue.TheVariants.{Initial, Properties, Times, Easings, Names, Counts, Directions, Fills, States}
 use Rattle.fix_num.specs.declared.units.Micros.{Micros}
-use Rattle.value_types.specs.declared.easing.Easing.{Easing}
+use Rattle.timing_types.specs.declared.easing.Easing.{Easing}
 use Rattle.value_types.specs.declared.shorthand.PropertyItem.{PropertyItem}
-use Rattle.value_types.specs.declared.timing.Count.{Count}
-use Rattle.value_types.specs.declared.timing.Direction.{Direction}
-use Rattle.value_types.specs.declared.timing.Fill.{Fill}
-use Rattle.value_types.specs.declared.timing.PlayState.{PlayState}
+use Rattle.timing_types.specs.declared.timing.Count.{Count}
+use Rattle.timing_types.specs.declared.timing.Direction.{Direction}
+use Rattle.timing_types.specs.declared.timing.Fill.{Fill}
+use Rattle.timing_types.specs.declared.timing.PlayState.{PlayState}
 use Rattle.list_text.specs.Easings.{IsEasingSpelling}
 use Rattle.list_text.specs.Numbers.{clamped_nearest}
 use Rattle.list_text.specs.Lists.{AreItems, AreItemsOf, IsCountSpelling, IsDelaySpelling, IsDurationSpelling, IsListAnswer, IsListSpelling, IsWord, direction_words, fill_words, initial, item_count, items, last, more, name_of_word, nothing, property_of_word, state_words}

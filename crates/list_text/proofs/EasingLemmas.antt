@@ -9,11 +9,11 @@ use Rattle.fix_num.proofs.IntegerLemmas.{integer_near, integer_stands}
 use Rattle.token_parts.specs.Keywords.{is_keyword, look_up}
 use Rattle.token_parts.specs.declared.fault.ValueFault.TheVariants.{Bound}
 use Rattle.token_parts.specs.Parts.{TokenPart, Ident, Function, Number, Comma, Close}
-use Rattle.value_types.specs.Timing.{IsControlPoint, IsEasing, fewest_steps}
-use Rattle.value_types.specs.declared.easing.Easing.{Easing}
-use Rattle.value_types.specs.declared.easing.Easing.TheVariants.{Linear, Cubic, Steps}
-use Rattle.value_types.specs.declared.easing.Jump.{Jump}
-use Rattle.value_types.specs.declared.easing.Jump.TheVariants.{Start, End, Both, Nowhere}
+use Rattle.timing_types.specs.Timing.{IsControlPoint, IsEasing, fewest_steps}
+use Rattle.timing_types.specs.declared.easing.Easing.{Easing}
+use Rattle.timing_types.specs.declared.easing.Easing.TheVariants.{Linear, Cubic, Steps}
+use Rattle.timing_types.specs.declared.easing.Jump.{Jump}
+use Rattle.timing_types.specs.declared.easing.Jump.TheVariants.{Start, End, Both, Nowhere}
 use Rattle.list_text.specs.Numbers.{clamp, clamped_nearest, nearest}
 use Rattle.list_text.specs.Easings.{IsAbscissa, IsEasingAnswer, IsEasingSpelling, IsStepCount, curve, easing_words, jump_words, steps, steps_and_jump, word}
 use Rattle.list_text.specs.ItemReading.{easing_read, judgement_of}

@@ -6,10 +6,10 @@ use Rattle.token_parts.specs.Keywords.{is_keyword}
 use Rattle.token_parts.specs.Parts.{TokenPart, Ident, Comma}
 use Rattle.token_parts.specs.declared.fault.ValueFault.{ValueFault}
 use Rattle.token_parts.specs.declared.fault.ValueFault.TheVariants.{Unsupported, BoundItems, Bound}
-use Rattle.value_types.proofs.NameLemmas.{animation_name_told}
-use Rattle.value_types.specs.Names.{IsNameItem, is_animation_name}
-use Rattle.value_types.specs.Timing.{IsAny, IsEasing}
-use Rattle.value_types.specs.declared.easing.Easing.{Easing}
+use Rattle.timing_types.proofs.NameLemmas.{animation_name_told}
+use Rattle.timing_types.specs.Names.{IsNameItem, is_animation_name}
+use Rattle.timing_types.specs.Timing.{IsAny, IsEasing}
+use Rattle.timing_types.specs.declared.easing.Easing.{Easing}
 use Rattle.list_text.specs.Numbers.{clamp, clamped_nearest}
 use Rattle.list_text.specs.Easings.{IsEasingSpelling, curve, steps, steps_and_jump, word}
 use Rattle.list_text.proofs.EasingLemmas.{easing_far, easing_found, easing_ok, view_easing}

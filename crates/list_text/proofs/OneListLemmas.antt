@@ -6,16 +6,16 @@ use Rattle.std.specs.Str.{bytes_eq, str_to_ascii_lowercase}
 use Rattle.std.proofs.lemmas.Bool.{and_parts}
 use Rattle.token_parts.specs.Keywords.{is_keyword, look_up}
 use Rattle.token_parts.specs.Parts.{TokenPart, Ident, Comma}
-use Rattle.value_types.specs.Names.{is_animation_name, is_reserved}
-use Rattle.value_types.proofs.NameLemmas.{animation_name_told}
-use Rattle.value_types.specs.declared.easing.Easing.{Easing}
+use Rattle.timing_types.specs.Names.{is_animation_name, is_reserved}
+use Rattle.timing_types.proofs.NameLemmas.{animation_name_told}
+use Rattle.timing_types.specs.declared.easing.Easing.{Easing}
 use Rattle.value_types.specs.declared.list_value.ListName.{ListName}
 use Rattle.value_types.specs.declared.list_value.ListName.TheVariants as list
 use Rattle.value_types.specs.declared.list_value.ListValue.{ListValue}
 use Rattle.value_types.specs.declared.list_value.ListValue.TheVariants.{Initial, Properties, Times, Easings, Names, Counts, Directions, Fills, States}
 use Rattle.value_types.specs.declared.shorthand.PropertyItem.{PropertyItem}
-use Rattle.value_types.specs.declared.timing.Count.{Count}
-use Rattle.value_types.specs.declared.timing.Count.TheVariants as count
+use Rattle.timing_types.specs.declared.timing.Count.{Count}
+use Rattle.timing_types.specs.declared.timing.Count.TheVariants as count
 use Rattle.list_text.specs.Easings.{IsEasingSpelling, curve, easing_words, steps, steps_and_jump, word}
 use Rattle.list_text.specs.Numbers.{nearest}
 use Rattle.list_text.specs.Lists.{AreItems, AreItemsOf, IsCountSpelling, IsDelaySpelling, IsDurationSpelling, IsListSpelling, IsTime, IsWord, direction_words, fill_words, infinite, initial, items, last, milliseconds, more, name_of_word, nothing, property_of_word, seconds, state_words, times}

@@ -7,9 +7,9 @@ use Rattle.fix_num.specs.Rounded.{StandsNear}
 use Rattle.fix_num.specs.declared.units.Micros.{Micros}
 use Rattle.token_parts.specs.Keywords.{is_keyword}
 use Rattle.token_parts.specs.Parts.{TokenPart, Ident, Number, Dimension}
-use Rattle.value_types.specs.Timing.{IsCount, IsDelay, IsDuration}
-use Rattle.value_types.specs.declared.timing.Count.{Count}
-use Rattle.value_types.specs.declared.timing.Count.TheVariants.{Times, Infinite}
+use Rattle.timing_types.specs.Timing.{IsCount, IsDelay, IsDuration}
+use Rattle.timing_types.specs.declared.timing.Count.{Count}
+use Rattle.timing_types.specs.declared.timing.Count.TheVariants.{Times, Infinite}
 use Rattle.list_text.specs.Numbers.{clamp, clamped_nearest, not_negative}
 use Rattle.list_text.specs.Lists.{IsCountSpelling, IsDelaySpelling, IsDurationSpelling, IsTime, infinite, milliseconds, seconds, times}
 use Rattle.list_text.specs.ItemReading.{count_of, count_within, micros, micros_of, micros_within, time_of, time_with}

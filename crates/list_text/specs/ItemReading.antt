@@ -7,14 +7,14 @@ use Rattle.token_parts.specs.Keywords.{is_keyword, look_up}
 use Rattle.token_parts.specs.Parts.{TokenPart, Ident, Function, Number, Dimension, Comma, Close}
 use Rattle.token_parts.specs.declared.fault.ValueFault.{ValueFault}
 use Rattle.token_parts.specs.declared.fault.ValueFault.TheVariants.{Unsupported, BoundItems, Bound, NoMemory}
-use Rattle.value_types.specs.declared.easing.Easing.{Easing}
-use Rattle.value_types.specs.declared.limits.TheConstants.{MAX_ITEMS}
+use Rattle.timing_types.specs.declared.easing.Easing.{Easing}
+use Rattle.timing_types.specs.declared.limits.TheConstants.{MAX_ITEMS}
 use Rattle.value_types.specs.declared.list_value.ListName.{ListName}
 use Rattle.value_types.specs.declared.list_value.ListName.TheVariants as list
 use Rattle.value_types.specs.declared.list_value.ListValue.{ListValue}
 use Rattle.value_types.specs.declared.list_value.ListValue.TheVariants.{Initial, Properties, Times, Easings, Names, Counts, Directions, Fills, States}
-use Rattle.value_types.specs.declared.timing.Count.{Count}
-use Rattle.value_types.specs.declared.timing.Count.TheVariants as count
+use Rattle.timing_types.specs.declared.timing.Count.{Count}
+use Rattle.timing_types.specs.declared.timing.Count.TheVariants as count
 use Rattle.list_text.specs.Lists.{direction_words, fill_words, state_words, name_of_word, property_of_word}
 use Rattle.list_text.specs.Numbers.{clamped_nearest, not_negative}
 use Rattle.token_parts.specs.Steps.{◌>>=◌}

@@ -7,9 +7,9 @@ use Rattle.token_parts.specs.Parts.{TokenPart, Ident, Number, Dimension, Comma}
 use Rattle.token_parts.specs.declared.fault.ValueFault.{ValueFault}
 use Rattle.token_parts.specs.declared.fault.ValueFault.TheVariants.{Unsupported, BoundItems, Bound, NoMemory}
 use Rattle.value_types.specs.ListValues.{IsListValueFor}
-use Rattle.value_types.specs.Names.{is_animation_name, is_reserved}
+use Rattle.timing_types.specs.Names.{is_animation_name, is_reserved}
 use Rattle.value_types.specs.Properties.{property_named}
-use Rattle.value_types.specs.declared.limits.TheConstants.{MAX_ITEMS}
+use Rattle.timing_types.specs.declared.limits.TheConstants.{MAX_ITEMS}
 use Rattle.value_types.specs.declared.list_value.ListName.{ListName}
 use Rattle.value_types.specs.declared.list_value.ListName.TheVariants as list
 use Rattle.value_types.specs.declared.list_value.ListValue.{ListValue}
@@ -19,14 +19,14 @@ use Rattle.value_types.specs.declared.shorthand.PropertyItem.{PropertyItem}
 use Rattle.value_types.specs.declared.shorthand.PropertyItem.TheVariants as item
 use Rattle.value_types.specs.declared.shorthand.Shorthand.{Shorthand}
 use Rattle.value_types.specs.declared.shorthand.Shorthand.TheVariants.{Background, Inset, Margin, Padding}
-use Rattle.value_types.specs.declared.timing.Count.{Count}
-use Rattle.value_types.specs.declared.timing.Count.TheVariants as count
-use Rattle.value_types.specs.declared.timing.Direction.{Direction}
-use Rattle.value_types.specs.declared.timing.Direction.TheVariants.{Normal, Reverse, Alternate, AlternateReverse}
-use Rattle.value_types.specs.declared.timing.Fill.{Fill}
-use Rattle.value_types.specs.declared.timing.Fill.TheVariants.{Nothing, Forwards, Backwards, Both}
-use Rattle.value_types.specs.declared.timing.PlayState.{PlayState}
-use Rattle.value_types.specs.declared.timing.PlayState.TheVariants.{Running, Paused}
+use Rattle.timing_types.specs.declared.timing.Count.{Count}
+use Rattle.timing_types.specs.declared.timing.Count.TheVariants as count
+use Rattle.timing_types.specs.declared.timing.Direction.{Direction}
+use Rattle.timing_types.specs.declared.timing.Direction.TheVariants.{Normal, Reverse, Alternate, AlternateReverse}
+use Rattle.timing_types.specs.declared.timing.Fill.{Fill}
+use Rattle.timing_types.specs.declared.timing.Fill.TheVariants.{Nothing, Forwards, Backwards, Both}
+use Rattle.timing_types.specs.declared.timing.PlayState.{PlayState}
+use Rattle.timing_types.specs.declared.timing.PlayState.TheVariants.{Running, Paused}
 use Rattle.list_text.specs.Easings.{IsEasingSpelling}
 
 -- ---- items

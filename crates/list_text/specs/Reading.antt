@@ -4,12 +4,12 @@ use Rattle.fix_num.specs.Integer.{has_no_point}
 use Rattle.token_parts.specs.Keywords.{is_keyword, look_up}
 use Rattle.token_parts.specs.Steps.{◌>>=◌, after_comma}
 use Rattle.token_parts.specs.Parts.{TokenPart, Ident, Function, Number, Comma, Close}
-use Rattle.value_types.specs.Timing.{fewest_steps}
-use Rattle.value_types.specs.declared.easing.Easing.{Easing}
-use Rattle.value_types.specs.declared.easing.Easing.TheVariants.{Linear, Cubic, Steps}
-use Rattle.value_types.specs.declared.easing.Jump.{Jump}
-use Rattle.value_types.specs.declared.easing.Jump.TheVariants.{End}
-use Rattle.value_types.specs.declared.limits.TheConstants.{MAX_ORDINATE, MAX_STEPS}
+use Rattle.timing_types.specs.Timing.{fewest_steps}
+use Rattle.timing_types.specs.declared.easing.Easing.{Easing}
+use Rattle.timing_types.specs.declared.easing.Easing.TheVariants.{Linear, Cubic, Steps}
+use Rattle.timing_types.specs.declared.easing.Jump.{Jump}
+use Rattle.timing_types.specs.declared.easing.Jump.TheVariants.{End}
+use Rattle.timing_types.specs.declared.limits.TheConstants.{MAX_ORDINATE, MAX_STEPS}
 use Rattle.list_text.specs.Numbers.{not_negative}
 use Rattle.list_text.specs.Easings.{easing_words, jump_words}
 

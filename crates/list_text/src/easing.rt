@@ -3,7 +3,7 @@ ghost use Rattle.std.specs.Prelude.{◌≡◌, map, pos, option_map, All};
 ghost use Rattle.css_token.specs.TokenLists.{LiesWithin};
 ghost use Rattle.token_parts.specs.Keywords.{look_up};
 ghost use Rattle.token_parts.specs.Parts.{token_parts_of, token_part};
-ghost use Rattle.value_types.specs.Timing.{fewest_steps};
+ghost use Rattle.timing_types.specs.Timing.{fewest_steps};
 ghost use Rattle.list_text.specs.Easings.{IsEasingAnswer, easing_words, jump_words};
 ghost use Rattle.list_text.specs.ItemReading.{Gives, easing_read};
 ghost use Rattle.list_text.specs.Numbers.{clamped_nearest};
@@ -14,8 +14,8 @@ use css_token::Token;
 use fix_num::has_no_point;
 use std::alloc::Global;
 use token_parts::{Part, ValueFault, after_comma, is_keyword, look_up, parts};
-use value_types::limits::{MAX_ORDINATE, MAX_STEPS};
-use value_types::{Easing, Jump};
+use timing_types::limits::{MAX_ORDINATE, MAX_STEPS};
+use timing_types::{Easing, Jump};
 
 const MOST_STEPS: i64 = MAX_STEPS as i64;
 

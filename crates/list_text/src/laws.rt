@@ -1,7 +1,7 @@
 //! What holds of the spellings by the definitions alone.
 ghost use Rattle.std.specs.Prelude.{◌≡◌, List};
 ghost use Rattle.token_parts.specs.Parts.{TokenPart};
-ghost use Rattle.value_types.specs.declared.easing.Easing.{Easing};
+ghost use Rattle.timing_types.specs.declared.easing.Easing.{Easing};
 ghost use Rattle.value_types.specs.declared.list_value.ListName.{ListName};
 ghost use Rattle.value_types.specs.declared.list_value.ListValue.{ListValue};
 ghost use Rattle.list_text.specs.Easings.{IsEasingAnswer, IsEasingSpelling};

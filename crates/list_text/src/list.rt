@@ -13,8 +13,9 @@ use crate::item::Item;
 use css_token::Token;
 use std::alloc::{AllocError, Global};
 use token_parts::{Part, ValueFault, is_keyword, parts};
-use value_types::limits::MAX_ITEMS;
-use value_types::{Items, ListName, ListValue};
+use timing_types::limits::MAX_ITEMS;
+use timing_types::Items;
+use value_types::{ListName, ListValue};
 
 /// The value of the timing list that the tokens of the text spell (CSS Transitions 1, "Transitions"; CSS
 /// Animations 1, "Declaring Animations"). `Unsupported`: none. `BoundItems`: more than 32 items. `Bound`: a number past

@@ -12,10 +12,5 @@ pub use list_text::{
 pub use token_parts::ValueFault;
 pub use value_print::print_value;
 pub use value_text::{one_value, read_value, reading_is_exact, spelled_is_declared};
-pub use value_types::{
-    AnimationLists, Count, Declared, Direction, Display, Easing, Fill, Frame, Frames, Items, Jump,
-    ListName, ListValue, Name, PlayState, PropertyId, PropertyItem, Shorthand, Size,
-    TransitionLists, Unit, Value, ValueKind, ValueRange, Visibility, initial_value,
-    initial_values_are_valid, is_inherited, keeps_percent, longhands, names_read_back,
-    numbers_follow_names, numbers_read_back, range_of, takes,
-};
+pub use timing_types::{AnimationLists, Count, Direction, Easing, Fill, Items, Jump, Name, PlayState};
+pub use value_types::{Declared, Display, Frame, Frames, ListName, ListValue, PropertyId, PropertyItem, Shorthand, Size, TransitionLists, Unit, Value, ValueKind, ValueRange, Visibility, initial_value, initial_values_are_valid, is_inherited, keeps_percent, longhands, names_read_back, numbers_follow_names, numbers_read_back, range_of, takes};

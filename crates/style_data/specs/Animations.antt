@@ -1,6 +1,6 @@
 -- The bounds of animations (CSS Animations 1, section 4).
 use Rattle.std.specs.Prelude.{IfSome}
-use Rattle.value_types.specs.Timing.{IsCount, IsDelay, IsDuration, IsEasing}
+use Rattle.timing_types.specs.Timing.{IsCount, IsDelay, IsDuration, IsEasing}
 use Rattle.style_data.specs.declared.animation.AnimationState.{AnimationState}
 use Rattle.style_data.specs.declared.timing.AnimationTiming.{AnimationTiming}
 use Rattle.style_data.specs.Transitions.{IsMoment}

@@ -2,7 +2,7 @@
 use Rattle.std.specs.Prelude.{◌*◌, ◌≤◌, ℤ, pos, ◌≤ℤ◌, unsigned_abs}
 use Rattle.fix_num.specs.declared.limits.TheConstants.{MAX_TIME}
 use Rattle.reversing.specs.Reversal.{IsFactor}
-use Rattle.value_types.specs.Timing.{IsEasing}
+use Rattle.timing_types.specs.Timing.{IsEasing}
 use Rattle.style_data.specs.declared.transition.Transition.{Transition}
 
 -- a moment of a document, in microseconds

@@ -9,7 +9,7 @@ use crate::transition::Phase;
 use fix_num::Micros;
 use std::alloc::{AllocError, Global};
 use std::marker::Model;
-use value_types::Name;
+use timing_types::Name;
 
 /// One animation of an element (CSS Animations 1, section 4). Times are microseconds.
 #[derive(Drop)]

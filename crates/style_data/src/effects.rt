@@ -11,7 +11,7 @@ use crate::transition::Phase;
 use crate::transitions::Transitions;
 use std::alloc::{AllocError, Global};
 use std::marker::Model;
-use value_types::Same;
+use timing_types::Same;
 
 /// The transitions and animations of an element, the animations ascending by their places, and the cancelled
 /// ones of both, in the order of their cancellation. Contracts see them as these lists.

@@ -12,7 +12,8 @@ use crate::transition::{Completed, Phase, Running};
 use computed_style::{DeclaredSet, Style};
 use std::alloc::{AllocError, Global};
 use std::marker::Model;
-use value_types::{PropertyId, Same};
+use timing_types::Same;
+use value_types::PropertyId;
 
 #[derive(Drop)]
 struct Parts {

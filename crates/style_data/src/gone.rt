@@ -5,7 +5,8 @@ ghost use Rattle.std.specs.Prelude.{◌≡◌, IfOk};
 use crate::transition::Phase;
 use fix_num::Micros;
 use std::alloc::{AllocError, Global};
-use value_types::{Name, PropertyId};
+use timing_types::Name;
+use value_types::PropertyId;
 
 /// What an event or a cancelled item is of: the property of a transition, or an animation's name.
 #[derive(Drop)]

@@ -7,7 +7,8 @@ use crate::gone::{Gone, Subject};
 use crate::timing::AnimTiming;
 use crate::transition::{Completed, Running, Transition};
 use interpolation::same;
-use value_types::{PropertyId, Same};
+use timing_types::Same;
+use value_types::PropertyId;
 
 impl Same for Subject {
     fn is_same(&self, other: &Subject) -> bool {

@@ -5,7 +5,7 @@ ghost use Rattle.style_data.specs.Animations.{IsTiming};
 
 use fix_num::Micros;
 use std::marker::Model;
-use value_types::{Count, Direction, Easing, Fill};
+use timing_types::{Count, Direction, Easing, Fill};
 
 /// The timing of one animation (CSS Animations 1, section 4). Times are microseconds.
 #[derive(Clone, Copy, PartialEq, Eq)]

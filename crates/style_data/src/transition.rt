@@ -5,7 +5,8 @@ ghost use Rattle.style_data.specs.Transitions.{IsTransition};
 
 use fix_num::{Bill, Micros};
 use std::marker::Model;
-use value_types::{Easing, Value};
+use timing_types::Easing;
+use value_types::Value;
 
 /// How far a transition or an animation was when events were last sent for it (Web Animations 1, "Animation effect
 /// phases and states"); `Idle` before any.

@@ -10,7 +10,8 @@ use crate::transition::{Completed, Phase, Running};
 use smallvec::SmallVec;
 use std::alloc::{AllocError, Global};
 use std::marker::Model;
-use value_types::{PropertyId, Same};
+use timing_types::Same;
+use value_types::PropertyId;
 
 /// The running and the completed transitions of an element (CSS Transitions 1, section 3), both ascending by
 /// property number. Each is kept for its property, and no property has both.

@@ -2,8 +2,8 @@
 use Rattle.std.proofs.Common.{◌≡◌, zero, suc, ◌<◌, arith}
 use Rattle.std.specs.Prelude.{All, [], ◌∷◌}
 use Rattle.fix_num.specs.declared.units.Micros.{Micros}
-use Rattle.value_types.specs.Timing.{IsDuration}
-use Rattle.value_types.specs.TimingLists.{IsListOf}
+use Rattle.timing_types.specs.Timing.{IsDuration}
+use Rattle.timing_types.specs.TimingLists.{IsListOf}
 
 both : (a b : Micros) → IsDuration a → IsDuration b → All IsDuration (a ∷ b ∷ [])
 both a b p q zero d l = p

@@ -2,7 +2,8 @@
 
 use std::test::Fail;
 use style_data::{DeclaredSet, Winning};
-use value_types::{Declared, ListName, ListValue, PropertyId, Same};
+use timing_types::Same;
+use value_types::{Declared, ListName, ListValue, PropertyId};
 
 #[test]
 fn collects_winners(rt: HostRuntime) -> Result<(), Fail> {

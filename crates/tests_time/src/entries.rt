@@ -10,7 +10,8 @@ use style_data::{
     AnimTiming, Animation, AnimationState, AnimationTiming, Completed, DeclaredSet, Effects, Entry,
     Gone, Phase, Style, Subject, Transitions,
 };
-use value_types::{Count, Direction, Easing, Fill, Name, PropertyId, Same, Value};
+use timing_types::{Count, Direction, Easing, Fill, Name, Same};
+use value_types::{PropertyId, Value};
 
 #[test]
 fn fresh_entry(rt: HostRuntime) -> Result<(), Fail> {

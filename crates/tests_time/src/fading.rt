@@ -6,7 +6,8 @@ ghost use Rattle.value_types.specs.declared.value.Value.{Value};
 
 use fix_num::{Bill, Fix, Micros};
 use style_data::{Phase, Running, Transition};
-use value_types::{Easing, Value};
+use timing_types::Easing;
+use value_types::Value;
 
 pub(crate) fn number(millionths: i64) -> Value
     ensures { result ≡ Value.Number (record { 0 = millionths }) }

@@ -1,13 +1,14 @@
 //! Matching of transition lists.
 ghost use Rattle.std.specs.Prelude.{◌≡◌, [], ◌∷◌, IfOk};
-ghost use Rattle.value_types.specs.Timing.{IsDuration};
-ghost use Rattle.value_types.specs.TimingLists.{IsListOf};
+ghost use Rattle.timing_types.specs.Timing.{IsDuration};
+ghost use Rattle.timing_types.specs.TimingLists.{IsListOf};
 
 use fix_num::Micros;
 use std::alloc::{AllocError, Global};
 use std::test::Fail;
 use transition_list::{matching, matching_or_initial};
-use value_types::{Easing, Items, PropertyId, PropertyItem, Shorthand, TransitionLists};
+use timing_types::{Easing, Items};
+use value_types::{PropertyId, PropertyItem, Shorthand, TransitionLists};
 
 fn two<T: Drop>(alloc: Global, first: T, second: T) -> Result<Items<T>, AllocError>
     ensures { IfOk result (λ items. items ≡ first ∷ second ∷ []) }

@@ -9,7 +9,8 @@ use std::test::Fail;
 use style_data::{Completed, Decision, Phase, Running};
 use transition_list::{Match, MatchedItem};
 use transition_start::{decide, elapsed_at, phase_at, value_at};
-use value_types::{Easing, PropertyId, Value};
+use timing_types::Easing;
+use value_types::{PropertyId, Value};
 
 const HALF: Micros = Micros(500_000);
 

@@ -3,7 +3,8 @@ use crate::fading::number;
 use fix_num::Fix;
 use std::test::Fail;
 use style_data::{NoSampling, Sampling, Shared, Style};
-use value_types::{AnimationLists, PropertyId, Same, TransitionLists, Value};
+use timing_types::{AnimationLists, Same};
+use value_types::{PropertyId, TransitionLists, Value};
 
 const HALF: [(PropertyId, Value); 1] = [(PropertyId::Opacity, Value::Number(Fix(500_000)))];
 

@@ -3,10 +3,8 @@
 use css_token::is_identifier;
 use fix_num::{Bill, Fix, Micros};
 use std::test::Fail;
-use value_types::{
-    AnimationLists, Count, Declared, Easing, Frame, Frames, Items, ListValue, Name, PlayState,
-    PropertyId, PropertyItem, Same, TransitionLists,
-};
+use timing_types::{AnimationLists, Count, Easing, Items, Name, PlayState, Same};
+use value_types::{Declared, Frame, Frames, ListValue, PropertyId, PropertyItem, TransitionLists};
 
 fn name(rt: &HostRuntime, bytes: &[u8]) -> Result<Name, Fail> {
     if !is_identifier(bytes) {

@@ -1,6 +1,6 @@
 //! Limits and units, typed from the product's tables.
 
-use value_types::limits::{MAX_ITEMS, MAX_ORDINATE, MAX_STEPS};
+use timing_types::limits::{MAX_ITEMS, MAX_ORDINATE, MAX_STEPS};
 use value_types::{Display, ValueRange, Visibility};
 
 #[test]

@@ -4,10 +4,8 @@
 use crate::reading::{easing, list};
 use fix_num::{Fix, Micros};
 use token_parts::ValueFault;
-use value_types::{
-    Count, Direction, Easing, Fill, Items, Jump, ListName, ListValue, PlayState, PropertyId,
-    PropertyItem, Shorthand,
-};
+use timing_types::{Count, Direction, Easing, Fill, Items, Jump, PlayState};
+use value_types::{ListName, ListValue, PropertyId, PropertyItem, Shorthand};
 
 /// The only item.
 fn only<T: Copy>(items: &Items<T>) -> Option<T> {

@@ -1,13 +1,14 @@
 //! What texts declare.
 ghost use Rattle.std.specs.Prelude.{IfOk};
-ghost use Rattle.value_types.specs.Timing.{IsEasing};
+ghost use Rattle.timing_types.specs.Timing.{IsEasing};
 ghost use Rattle.value_types.specs.Validity.{IsDeclaredFor};
 
 use css_token::tokens;
 use list_text::{read_easing, read_list};
 use token_parts::ValueFault;
 use value_text::read_value;
-use value_types::{Declared, Easing, ListName, ListValue, PropertyId};
+use timing_types::Easing;
+use value_types::{Declared, ListName, ListValue, PropertyId};
 
 /// What the text declares of the property.
 pub fn declared(rt: &HostRuntime, p: PropertyId, text: &str) -> Result<Declared, ValueFault>

@@ -2,7 +2,7 @@
 use Rattle.std.specs.Prelude.{◌+◌, ℤ, pos, true, List, if◌then◌else◌, Option, Some, None}
 use Rattle.std.specs.Option.{option_map_or}
 use Rattle.transition_list.specs.declared.matched.MatchedItem.{MatchedItem}
-use Rattle.value_types.specs.declared.easing.Easing.TheVariants.{Linear}
+use Rattle.timing_types.specs.declared.easing.Easing.TheVariants.{Linear}
 use Rattle.value_types.specs.declared.property.PropertyId.TheVariants.{Opacity}
 use Rattle.value_types.specs.declared.value.Value.{Value}
 use Rattle.style_data.specs.declared.transition.Transition.{Transition}

@@ -17,7 +17,8 @@ use std::alloc::AllocError;
 use style_data::{Completed, Running, Transition};
 use transition_list::{Match, MatchedItem};
 use transition_start::{decide, phase_at, value_at};
-use value_types::{Easing, PropertyId, Value};
+use timing_types::Easing;
+use value_types::{PropertyId, Value};
 
 /// A frame at the world's time: appends the events of its tick, and restyles the element.
 #[tactic(auto, unfolding(crate::specs::Frame::after_frame))]

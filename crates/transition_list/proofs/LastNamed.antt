@@ -4,7 +4,7 @@ use Rattle.std.specs.Prelude.{◌↔◌, Bool, true, false, List, [], ◌∷◌,
 use Rattle.std.proofs.lemmas.Bool.{cases_lt, false≢true}
 use Rattle.std.proofs.lemmas.List.{length-take-le, take_more}
 use Rattle.transition_list.specs.declared.matched.MatchedItem.{MatchedItem}
-use Rattle.value_types.specs.TimingLists.{TransitionValues}
+use Rattle.value_types.specs.TransitionLists.{TransitionValues}
 use Rattle.value_types.specs.declared.property.PropertyId.{PropertyId}
 use Rattle.value_types.specs.declared.shorthand.PropertyItem.{PropertyItem}
 use Rattle.transition_list.specs.Matching.{IsLastNamed, IsMatchOf, last_named, last_named_from, later, match_at, match_of, names}

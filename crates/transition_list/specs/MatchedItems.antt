@@ -1,5 +1,5 @@
 -- Matching items (CSS Transitions 1, sections 2 and 3).
-use Rattle.value_types.specs.Timing.{IsDelay, IsDuration, IsEasing}
+use Rattle.timing_types.specs.Timing.{IsDelay, IsDuration, IsEasing}
 use Rattle.transition_list.specs.declared.matched.MatchedItem.{MatchedItem}
 
 -- a matching item as the lists hold it

@@ -4,8 +4,9 @@ use Rattle.std.specs.List.{list_any}
 use Rattle.transition_list.specs.declared.matched.MatchedItem.{MatchedItem}
 use Rattle.value_types.specs.Properties.{number_of}
 use Rattle.value_types.specs.Shorthands.{longhands_of}
-use Rattle.value_types.specs.Timing.{ease}
-use Rattle.value_types.specs.TimingLists.{TransitionValues, no_time}
+use Rattle.timing_types.specs.Timing.{ease}
+use Rattle.timing_types.specs.TimingLists.{no_time}
+use Rattle.value_types.specs.TransitionLists.{TransitionValues}
 use Rattle.value_types.specs.declared.property.PropertyId.{PropertyId}
 use Rattle.value_types.specs.declared.shorthand.PropertyItem.{PropertyItem}
 use Rattle.value_types.specs.declared.shorthand.PropertyItem.TheVariants as item

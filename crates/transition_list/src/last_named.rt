@@ -1,13 +1,15 @@
 //! Matching items.
 
 ghost use Rattle.std.specs.Prelude.{◌≡◌, Some, if◌then◌else◌, option_copied, unwrap_or};
-ghost use Rattle.value_types.specs.Timing.{IsDelay, IsDuration, IsEasing, ease};
-ghost use Rattle.value_types.specs.TimingLists.{IsListOf, initial_transitions, no_time};
+ghost use Rattle.timing_types.specs.Timing.{IsDelay, IsDuration, IsEasing, ease};
+ghost use Rattle.timing_types.specs.TimingLists.{IsListOf, no_time};
+ghost use Rattle.value_types.specs.TransitionLists.{initial_transitions};
 ghost use Rattle.transition_list.specs.Matching.{IsMatchOf, is_among, last_named, match_at, match_of, names, repeated};
 
 use crate::matched::{Match, MatchedItem};
 use fix_num::Micros;
-use value_types::{Easing, PropertyId, PropertyItem, TransitionLists, longhands};
+use timing_types::Easing;
+use value_types::{PropertyId, PropertyItem, TransitionLists, longhands};
 
 /// The match of a property: what the last item of `transition-property` that names it gives, each shorter
 /// list being repeated (CSS Transitions 1, section 3, "matching transition-property value"). `None` exactly

@@ -1,7 +1,7 @@
 //! What holds of matches by the definitions alone.
 ghost use Rattle.std.specs.Prelude.{◌≡◌, ◌↔◌, ◌++◌, ◌∷◌, [], List, length, Option, Some, IsTrue};
 ghost use Rattle.transition_list.specs.declared.matched.MatchedItem.{MatchedItem};
-ghost use Rattle.value_types.specs.TimingLists.{TransitionValues};
+ghost use Rattle.value_types.specs.TransitionLists.{TransitionValues};
 ghost use Rattle.value_types.specs.declared.property.PropertyId.{PropertyId};
 ghost use Rattle.value_types.specs.declared.shorthand.PropertyItem.{PropertyItem};
 ghost use Rattle.transition_list.specs.Matching.{IsMatchOf, last_named, match_of, names};

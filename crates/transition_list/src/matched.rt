@@ -5,7 +5,7 @@ ghost use Rattle.transition_list.specs.MatchedItems.{IsMatchedItem};
 
 use fix_num::Micros;
 use std::marker::Model;
-use value_types::Easing;
+use timing_types::Easing;
 
 /// What the item of `transition-property` that matches a property gives it (CSS Transitions 1, section 3,
 /// "matching transition-property value"). Times are microseconds.

@@ -4,7 +4,7 @@ use Rattle.fix_num.specs.declared.units.TheConstants.Bill.{ONE}
 use Rattle.value_types.specs.declared.frame.Frame.{Frame}
 use Rattle.value_types.specs.declared.property.PropertyId.TheVariants as property
 use Rattle.value_types.specs.Properties.{number_of}
-use Rattle.value_types.specs.Timing.{IsEasing}
+use Rattle.timing_types.specs.Timing.{IsEasing}
 use Rattle.value_types.specs.Validity.{IsDeclaredFor}
 
 -- a frame: an offset from 0 to 1, a property other than display, declared as it may be, and an easing within its bounds

@@ -1,11 +1,9 @@
 pub mod Keyframes
 pub mod Keywords
 pub mod ListValues
-pub mod Names
 pub mod Properties
 pub mod Ranges
 pub mod Shorthands
 pub mod Table
-pub mod Timing
-pub mod TimingLists
+pub mod TransitionLists
 pub mod Validity

@@ -1,13 +1,13 @@
 -- What a declaration gives a timing list.
 use Rattle.std.specs.Prelude.{◌≤◌, length, ⊤}
-use Rattle.value_types.specs.declared.limits.TheConstants.{MAX_ITEMS}
+use Rattle.timing_types.specs.declared.limits.TheConstants.{MAX_ITEMS}
 use Rattle.value_types.specs.declared.list_value.ListName.{ListName}
 use Rattle.value_types.specs.declared.list_value.ListName.TheVariants as list
 use Rattle.value_types.specs.declared.list_value.ListValue.{ListValue}
 use Rattle.value_types.specs.declared.list_value.ListValue.TheVariants.{Inherit, Initial, Properties, Times, Easings, Names, Counts, Directions, Fills, States}
-use Rattle.value_types.specs.Names.{IsNameItem}
-use Rattle.value_types.specs.Timing.{IsAny, IsEasing, IsDuration, IsDelay, IsCount}
-use Rattle.value_types.specs.TimingLists.{IsListOf}
+use Rattle.timing_types.specs.Names.{IsNameItem}
+use Rattle.timing_types.specs.Timing.{IsAny, IsEasing, IsDuration, IsDelay, IsCount}
+use Rattle.timing_types.specs.TimingLists.{IsListOf}
 
 -- the list may be declared so: as its initial value, or by items of the list's type within its bounds; no list is inherited
 abbrev pub IsListValueFor : ListName → ListValue → Type 0

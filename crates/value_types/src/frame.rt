@@ -1,9 +1,9 @@
 //! A frame of a keyframes rule.
 
 use crate::declared::Declared;
-use crate::easing::Easing;
 use crate::property::PropertyId;
 use fix_num::Bill;
+use timing_types::Easing;
 
 /// What a keyframes rule gives one property at one offset (CSS Animations 1, "Keyframes").
 #[derive(Clone, Copy)]

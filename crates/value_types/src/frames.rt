@@ -4,9 +4,9 @@ ghost use Rattle.std.specs.Prelude.{◌≡◌, IfOk};
 ghost use Rattle.value_types.specs.Keyframes.{IsFrames};
 
 use crate::frame::Frame;
-use crate::same::{Same, are_same};
 use std::alloc::{AllocError, Global};
 use std::marker::Model;
+use timing_types::{Same, are_same};
 
 /// The frames of a keyframes rule, strictly ascending by offset and then by property number, which contracts
 /// see as their list. Each keeps its bounds, and none is of `display`.

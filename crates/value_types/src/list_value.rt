@@ -2,14 +2,10 @@
 
 ghost use Rattle.std.specs.Prelude.{◌≡◌, IfOk};
 
-use crate::easing::Easing;
-use crate::items::Items;
-use crate::name::{Name, copy_names};
-use crate::same::Same;
 use crate::shorthand::PropertyItem;
-use crate::timing::{Count, Direction, Fill, PlayState};
 use fix_num::Micros;
 use std::alloc::{AllocError, Global};
+use timing_types::{Count, Direction, Easing, Fill, Items, Name, PlayState, Same, copy_names};
 
 /// A timing list. The variants in `Easing` are the lists of timing functions, and `AnimationCount` is that
 /// of iteration counts.

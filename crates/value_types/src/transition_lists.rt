@@ -1,17 +1,16 @@
 //! The lists that time transitions.
 
 ghost use Rattle.std.specs.Prelude.{◌≡◌, ◌≤◌, length, IfOk};
-ghost use Rattle.value_types.specs.Timing.{IsDelay, IsDuration, IsEasing};
-ghost use Rattle.value_types.specs.TimingLists.{IsListOf, initial_transitions, transition_values};
+ghost use Rattle.timing_types.specs.Timing.{IsDelay, IsDuration, IsEasing};
+ghost use Rattle.timing_types.specs.TimingLists.{IsListOf};
+ghost use Rattle.value_types.specs.TransitionLists.{initial_transitions, transition_values};
 
-use crate::easing::Easing;
-use crate::items::Items;
-use crate::limits::MAX_ITEMS;
-use crate::same::Same;
 use crate::shorthand::PropertyItem;
 use fix_num::Micros;
 use std::alloc::{AllocError, Global};
 use std::marker::Model;
+use timing_types::limits::MAX_ITEMS;
+use timing_types::{Easing, Items, Same};
 
 /// The four lists that time the transitions of an element (CSS Transitions 1, "Transitions"). Durations are 0 to
 /// 10^15 microseconds, delays within 10^15, easings within their bounds. Each list has at most 32 items; only `items` may
@@ -25,7 +24,7 @@ pub struct TransitionLists {
 }
 
 impl Model for TransitionLists {
-    ghost use Rattle.value_types.specs.TimingLists.{TransitionValues, IsTransitionValues, transition_values};
+    ghost use Rattle.value_types.specs.TransitionLists.{TransitionValues, IsTransitionValues, transition_values};
 
     ghost Value = { TransitionValues };
 

@@ -2,7 +2,7 @@ use Rattle.std.proofs.Common.{◌∙◌, sym, ap, subst, rules}
 use Rattle.std.specs.Int.{w32, w128}
 use Rattle.std.proofs.lemmas.Int.{to_z-of_z}
 use mir.Val.{SFits}
-use Rattle.value_types.specs.declared.easing.Easing.{Easing}
+use Rattle.timing_types.specs.declared.easing.Easing.{Easing}
 use Rattle.fix_num.specs.Fractions.{IsFraction}
 use Rattle.easing.specs.Easings.{output_of}
 use Rattle.easing.proofs.Ordered.{unit_of}

@@ -2,7 +2,7 @@ use Rattle.std.proofs.Common.{arith, ap, ◌^◌}
 use Rattle.std.specs.Prelude.{pos, option_map}
 use Rattle.std.specs.Int.{w64}
 use Rattle.std.proofs.lemmas.Int.{fits_signed_from_abs, to_z_pos}
-use Rattle.value_types.specs.declared.timing.Count.TheVariants.{Times}
+use Rattle.timing_types.specs.declared.timing.Count.TheVariants.{Times}
 use Rattle.list_text.proofs.ViewLemmas.{natural_size}
 use Rattle.list_text.proofs.item.count_number.Goals as goal
 

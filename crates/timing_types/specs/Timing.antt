@@ -3,13 +3,13 @@
 use Rattle.std.specs.Prelude.{ℕ, ◌≤◌, ℤ, pos, ◌≤ℤ◌, unsigned_abs, ⊤}
 use Rattle.fix_num.specs.declared.limits.TheConstants.{MAX_NUMBER, MAX_TIME}
 use Rattle.fix_num.specs.declared.units.Micros.{Micros}
-use Rattle.value_types.specs.declared.easing.Easing.{Easing}
-use Rattle.value_types.specs.declared.easing.Easing.TheVariants.{Linear, Cubic, Steps}
-use Rattle.value_types.specs.declared.easing.Jump.{Jump}
-use Rattle.value_types.specs.declared.easing.Jump.TheVariants.{Start, End, Both, Nowhere}
-use Rattle.value_types.specs.declared.limits.TheConstants.{MAX_ORDINATE, MAX_STEPS}
-use Rattle.value_types.specs.declared.timing.Count.{Count}
-use Rattle.value_types.specs.declared.timing.Count.TheVariants.{Times, Infinite}
+use Rattle.timing_types.specs.declared.easing.Easing.{Easing}
+use Rattle.timing_types.specs.declared.easing.Easing.TheVariants.{Linear, Cubic, Steps}
+use Rattle.timing_types.specs.declared.easing.Jump.{Jump}
+use Rattle.timing_types.specs.declared.easing.Jump.TheVariants.{Start, End, Both, Nowhere}
+use Rattle.timing_types.specs.declared.limits.TheConstants.{MAX_ORDINATE, MAX_STEPS}
+use Rattle.timing_types.specs.declared.timing.Count.{Count}
+use Rattle.timing_types.specs.declared.timing.Count.TheVariants.{Times, Infinite}
 
 -- a control point of a curve in thousandths: x is 0 to 1, y within 10
 pub record IsControlPoint (x y : ℤ) : Type 0 where

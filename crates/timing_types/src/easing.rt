@@ -1,7 +1,7 @@
 //! Easing functions.
 
 ghost use Rattle.std.specs.Prelude.{◌≡◌};
-ghost use Rattle.value_types.specs.Timing.{ease};
+ghost use Rattle.timing_types.specs.Timing.{ease};
 
 /// An easing function (CSS Easing 1).
 #[derive(Clone, Copy, Debug, PartialEq, Eq)]

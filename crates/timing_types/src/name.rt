@@ -2,7 +2,7 @@
 
 ghost use Rattle.std.specs.Prelude.{◌≡◌, IfOk, IsTrue};
 ghost use Rattle.css_token.specs.Productions.{IsIdentifier};
-ghost use Rattle.value_types.specs.Names.{IsAnimationName, is_animation_name, is_reserved, underscore};
+ghost use Rattle.timing_types.specs.Names.{IsAnimationName, is_animation_name, is_reserved, underscore};
 
 use crate::items::Items;
 use css_token::is_identifier;
@@ -20,7 +20,7 @@ pub struct Name {
 impl Model for Name {
     ghost use Rattle.std.specs.Prelude.{List, ℕ};
     ghost use Rattle.css_token.specs.Productions.{IsIdentifier};
-    ghost use Rattle.value_types.specs.Names.{name_bytes};
+    ghost use Rattle.timing_types.specs.Names.{name_bytes};
 
     ghost Value = { List ℕ };
 

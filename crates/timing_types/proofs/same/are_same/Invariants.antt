@@ -1,5 +1,5 @@
 use Rattle.std.proofs.Common.{◌≡◌, take}
-use Rattle.value_types.proofs.same.are_same.Given as goal
+use Rattle.timing_types.proofs.same.are_same.Given as goal
 
 -- the items so far are the same
 abbrev pub invariant-loop-i : goal.invariant-loop-i

@@ -1,9 +1,9 @@
 //! The lists that time animations.
 
 ghost use Rattle.std.specs.Prelude.{◌≡◌, ◌↔◌, [], ◌∷◌, IfOk, IsTrue};
-ghost use Rattle.value_types.specs.Names.{IsNameItem};
-ghost use Rattle.value_types.specs.Timing.{IsAny, IsCount, IsDelay, IsDuration, IsEasing, ease};
-ghost use Rattle.value_types.specs.TimingLists.{IsListOf, animation_values, initial_animations, no_time, once};
+ghost use Rattle.timing_types.specs.Names.{IsNameItem};
+ghost use Rattle.timing_types.specs.Timing.{IsAny, IsCount, IsDelay, IsDuration, IsEasing, ease};
+ghost use Rattle.timing_types.specs.TimingLists.{IsListOf, animation_values, initial_animations, no_time, once};
 
 use crate::easing::Easing;
 use crate::items::Items;
@@ -42,7 +42,7 @@ struct Playing {
 }
 
 impl Model for AnimationLists {
-    ghost use Rattle.value_types.specs.TimingLists.{AnimationValues, IsAnimationValues, animation_values};
+    ghost use Rattle.timing_types.specs.TimingLists.{AnimationValues, IsAnimationValues, animation_values};
 
     ghost Value = { AnimationValues };
 

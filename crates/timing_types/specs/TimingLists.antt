@@ -1,28 +1,19 @@
--- The timing lists of an element (CSS Transitions 1, "Transitions"; CSS Animations 1, "Declaring Animations").
+-- The lists that time the animations of an element (CSS Animations 1, "Declaring Animations").
 use Rattle.std.specs.Prelude.{ℕ, ◌<◌, ◌≤◌, List, [], ◌∷◌, length, All, pos, Option, None}
 use Rattle.fix_num.specs.declared.units.Micros.{Micros}
 use Rattle.fix_num.specs.declared.units.TheConstants.Fix.{ONE}
-use Rattle.value_types.specs.declared.easing.Easing.{Easing}
-use Rattle.value_types.specs.declared.limits.TheConstants.{MAX_ITEMS}
-use Rattle.value_types.specs.declared.shorthand.PropertyItem.{PropertyItem}
-use Rattle.value_types.specs.declared.shorthand.PropertyItem.TheVariants as item
-use Rattle.value_types.specs.declared.timing.Count.{Count}
-use Rattle.value_types.specs.declared.timing.Count.TheVariants.{Times}
-use Rattle.value_types.specs.declared.timing.Direction.{Direction}
-use Rattle.value_types.specs.declared.timing.Direction.TheVariants.{Normal}
-use Rattle.value_types.specs.declared.timing.Fill.{Fill}
-use Rattle.value_types.specs.declared.timing.Fill.TheVariants.{Nothing}
-use Rattle.value_types.specs.declared.timing.PlayState.{PlayState}
-use Rattle.value_types.specs.declared.timing.PlayState.TheVariants.{Running}
-use Rattle.value_types.specs.Names.{IsNameItem}
-use Rattle.value_types.specs.Timing.{IsAny, IsEasing, IsDuration, IsDelay, IsCount, ease}
-
--- the four lists that time transitions; no item of transition-property is the keyword none
-pub record TransitionValues : Type 0 where
-  pub items : List PropertyItem
-  pub durations : List Micros
-  pub delays : List Micros
-  pub easings : List Easing
+use Rattle.timing_types.specs.declared.easing.Easing.{Easing}
+use Rattle.timing_types.specs.declared.limits.TheConstants.{MAX_ITEMS}
+use Rattle.timing_types.specs.declared.timing.Count.{Count}
+use Rattle.timing_types.specs.declared.timing.Count.TheVariants.{Times}
+use Rattle.timing_types.specs.declared.timing.Direction.{Direction}
+use Rattle.timing_types.specs.declared.timing.Direction.TheVariants.{Normal}
+use Rattle.timing_types.specs.declared.timing.Fill.{Fill}
+use Rattle.timing_types.specs.declared.timing.Fill.TheVariants.{Nothing}
+use Rattle.timing_types.specs.declared.timing.PlayState.{PlayState}
+use Rattle.timing_types.specs.declared.timing.PlayState.TheVariants.{Running}
+use Rattle.timing_types.specs.Names.{IsNameItem}
+use Rattle.timing_types.specs.Timing.{IsAny, IsEasing, IsDuration, IsDelay, IsCount, ease}
 
 -- the eight lists that time animations; no name is the keyword none
 pub record AnimationValues : Type 0 where
@@ -41,13 +32,6 @@ pub record IsListOf {T : Type 0} (P : T → Type 0) (xs : List T) : Type 0 where
   pub few : length xs ≤ MAX_ITEMS
   pub each : All P xs
 
--- the lists keep their bounds, and only that of properties may be empty
-pub record IsTransitionValues (v : TransitionValues) : Type 0 where
-  pub items : length v.items ≤ MAX_ITEMS
-  pub durations : IsListOf IsDuration v.durations
-  pub delays : IsListOf IsDelay v.delays
-  pub easings : IsListOf IsEasing v.easings
-
 -- the lists keep their bounds, and none is empty
 pub record IsAnimationValues (v : AnimationValues) : Type 0 where
   pub names : IsListOf IsNameItem v.names
@@ -58,11 +42,6 @@ pub record IsAnimationValues (v : AnimationValues) : Type 0 where
   pub directions : IsListOf IsAny v.directions
   pub fills : IsListOf IsAny v.fills
   pub states : IsListOf IsAny v.states
-
--- the four lists together
-abbrev pub transition_values : List PropertyItem → List Micros → List Micros → List Easing → TransitionValues
-transition_values items durations delays easings =
-    record { items = items; durations = durations; delays = delays; easings = easings }
 
 -- the eight lists together
 abbrev pub animation_values : List (Option (List ℕ)) → List Micros → List Micros → List Easing → List Count → List Direction → List Fill → List PlayState → AnimationValues
@@ -85,10 +64,6 @@ no_time = record { 0 = pos 0 }
 -- an iteration count of 1
 abbrev pub once : Count
 once = Times ONE
-
--- the initial values: all, 0s, 0s, ease
-abbrev pub initial_transitions : TransitionValues
-initial_transitions = transition_values (item.All ∷ []) (no_time ∷ []) (no_time ∷ []) (ease ∷ [])
 
 -- the initial values: none, 0s, 0s, ease, 1, normal, none, running
 abbrev pub initial_animations : AnimationValues

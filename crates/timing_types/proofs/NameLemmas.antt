@@ -2,7 +2,7 @@
 use Rattle.std.proofs.Common.{◌≡◌, ℕ, List, true}
 use Rattle.std.proofs.lemmas.Bool.{and_parts}
 use Rattle.css_token.specs.Productions.{begins_identifier}
-use Rattle.value_types.specs.Names.{IsAnimationName, is_animation_name}
+use Rattle.timing_types.specs.Names.{IsAnimationName, is_animation_name}
 
 -- what passes the test is one
 pub animation_name_told : (name : List ℕ) → is_animation_name name ≡ true → IsAnimationName name
