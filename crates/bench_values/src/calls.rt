@@ -10,9 +10,9 @@ use easing::output;
 use fix_num::{Bill, Fix, Micros};
 use list_text::read_list;
 use std::alloc::Global;
+use timing_types::Easing;
 use transition_list::{Match, MatchedItem};
 use transition_start::decide;
-use timing_types::Easing;
 use value_types::{ListName, PropertyId, Value};
 
 /// A list of thirty-two easings, of 910 bytes.

@@ -146,6 +146,7 @@ const BAD: [(&str, u32); 16] = [
 #[test]
 fn kinds_and_places(rt: HostRuntime) -> Result<(), Fail> {
     for (text, spans) in TEXTS.iter() {
+        assert!(rt; text.len() < 100);
         let found = tokens(rt.alloc(), text)?;
         assert!(rt; found.len() == spans.len());
         for (token, span) in found.iter().zip(spans.iter()) {
@@ -159,6 +160,7 @@ fn kinds_and_places(rt: HostRuntime) -> Result<(), Fail> {
 #[test]
 fn bad_tokens(rt: HostRuntime) {
     for (text, place) in BAD.iter() {
+        assert!(rt; text.len() < 100);
         let answer = tokens(rt.alloc(), text);
         assert!(rt; matches!(&answer, Err(TokenFault::BadToken { at }) if *at == *place));
     }

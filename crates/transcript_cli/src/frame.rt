@@ -15,9 +15,9 @@ use crate::world::{Entry, World};
 use fix_num::Micros;
 use std::alloc::AllocError;
 use style_data::{Completed, Running, Transition};
+use timing_types::Easing;
 use transition_list::{Match, MatchedItem};
 use transition_start::{decide, phase_at, value_at};
-use timing_types::Easing;
 use value_types::{PropertyId, Value};
 
 /// A frame at the world's time: appends the events of its tick, and restyles the element.
