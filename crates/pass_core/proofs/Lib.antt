@@ -4,3 +4,5 @@ pub mod Passing
 pub mod Schedules
 pub mod Orders
 pub mod Swaps
+pub mod Indexes
+pub mod InOrder

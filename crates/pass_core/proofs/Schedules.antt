@@ -167,12 +167,12 @@ pub record Running {E D : Type 0} (m : Meaning E D) (places : List Place) (st : 
   pub rest : are_allowed m places now (drop i events) ≡ true
   pub entries : have_entries places now.entries ≡ true
 
-after-push : {E D : Type 0} (m : Meaning E D) (places : List Place) (st : PassState E D) (events : List CoreEvent) (event : CoreEvent)
+pub after-push : {E D : Type 0} (m : Meaning E D) (places : List Place) (st : PassState E D) (events : List CoreEvent) (event : CoreEvent)
     → after_events m places st (events ++ event ∷ []) ≡ after_event m places (after_events m places st events) event
 after-push m places st [] event = refl
 after-push m places st (first ∷ events) event = after-push m places (after_event m places st first) events event
 
-allowed-push : {E D : Type 0} (m : Meaning E D) (places : List Place) (st : PassState E D) (events : List CoreEvent) (event : CoreEvent)
+pub allowed-push : {E D : Type 0} (m : Meaning E D) (places : List Place) (st : PassState E D) (events : List CoreEvent) (event : CoreEvent)
     → are_allowed m places st events ≡ true → is_allowed places (after_events m places st events).done event ≡ true → are_allowed m places st (events ++ event ∷ []) ≡ true
 allowed-push m places st [] event may here = rw here refl
 allowed-push m places st (first ∷ events) event may here =

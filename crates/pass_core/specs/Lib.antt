@@ -1,3 +1,4 @@
 pub mod Work
 pub mod Plans
 pub mod Passes
+pub mod InOrder

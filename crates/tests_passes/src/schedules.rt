@@ -5,7 +5,7 @@ ghost use Rattle.pass_core.specs.Plans.{is_proper};
 ghost use Rattle.pass_core.specs.Passes.{are_allowed};
 ghost use Rattle.pass_core.specs.declared.step.Step.TheVariants.{Kept};
 
-use pass_core::{CoreEvent, CoreState, Place, Plan, Step, TreeWork, run_schedule};
+use pass_core::{CoreEvent, CoreState, Place, Plan, Step, TreeWork, pass_alone, run_schedule};
 use std::alloc::{AllocError, Global};
 use std::test::Fail;
 
@@ -106,7 +106,13 @@ fn three(alloc: Global) -> Result<Plan, AllocError>
 fn begun(alloc: Global) -> Result<CoreState<Handing>, AllocError>
     ensures { IfOk result (λ state. state ≡ record { entries = OPENING; done = [] }) }
 {
-    CoreState::begin(alloc, Vec::from_slice(alloc, &OPENING)?)
+    CoreState::begin(alloc, opening(alloc)?)
+}
+
+fn opening(alloc: Global) -> Result<Vec<(u32, u32)>, AllocError>
+    ensures { IfOk result (λ entries. entries.items ≡ OPENING) }
+{
+    Ok(Vec::from_slice(alloc, &OPENING)?)
 }
 
 #[test]
@@ -130,5 +136,13 @@ fn either_child_may_come_first(rt: HostRuntime) -> Result<(), Fail> {
         assert!(rt; older.down(element).copied() == down);
         assert!(rt; younger.down(element).copied() == down);
     }
+    Ok(())
+}
+
+#[test]
+fn one_thread_leaves_the_same(rt: HostRuntime) -> Result<(), Fail> {
+    let plan = three(rt.alloc())?;
+    let closing = pass_alone(rt.alloc(), &Handing { top: 7 }, &plan, opening(rt.alloc())?)?;
+    assert!(rt; closing.as_slice() == [(3, 10), (1, 7), (9, 90), (2, 10)].as_slice());
     Ok(())
 }

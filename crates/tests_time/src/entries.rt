@@ -23,7 +23,7 @@ fn fresh_entry(rt: HostRuntime) -> Result<(), Fail> {
     Ok(())
 }
 
-fn transitions(alloc: Global) -> Result<Transitions, AllocError> {
+pub(crate) fn transitions(alloc: Global) -> Result<Transitions, AllocError> {
     let mut transitions = Transitions::new(alloc);
     transitions.keep(PropertyId::Opacity, Some(fade(Phase::Before)), None)?;
     let done = Completed { to: Value::Auto };

@@ -16,3 +16,5 @@ mod matching;
 mod starting;
 #[cfg(test)]
 mod styles;
+#[cfg(test)]
+mod updates;

@@ -1,0 +1,16 @@
+use Rattle.std.proofs.Common.{◌≡◌, ◌∙◌, ap, subst, sym}
+use Rattle.std.specs.Prelude.{IfSome}
+use Rattle.pass_core.specs.Passes.{state_of, with_outcome}
+use Rattle.pass_core.proofs.InOrder.{outcome_is}
+use Rattle.pass_core.proofs.alone.update_place.Goals as goal
+
+pub returns : goal.returns
+returns g c =
+    let m = g.W.TreeWork.meaning c.args.work.now in
+    let old = state_of c.args.entries.now.items c.args.done.now.items in
+    let x = c.index.result.now in
+    subst (λ o. IfSome o (λ step. state_of c.put_outcome.new.entries.items c.put_outcome.new.done.items ≡ with_outcome old c.args.place.element step))
+    (sym (outcome_is m c.args.entries.now.items c.args.done.now.items c.args.place c.index_of-at.result x c.down_for-down.result c.requires.distinct
+    (rw c.as_slice-2.ensures.value at c.index_of-at.ensures.within) ((rw c.as_slice-2.ensures.value at c.index_of-at.ensures.here) x) c.index.ensures
+    (rw c.as_slice.ensures.value at c.down_for-down.ensures)))
+    (c.in_ok-put_outcome.ensures ∙ ap (with_outcome old c.args.place.element) c.in_ok-outcome.ensures)

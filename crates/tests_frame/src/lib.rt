@@ -1,0 +1,6 @@
+//! Floor: element and frame. The tests of this floor's crates, of what no contract says: that calls which allocate
+//! succeed.
+#![tactic(auto)]
+
+#[cfg(test)]
+mod events;

@@ -1,0 +1,4 @@
+pub mod ByProperty
+pub mod Completion
+pub mod Given
+pub mod Steps

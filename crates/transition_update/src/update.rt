@@ -1,0 +1,121 @@
+//! The update of all transitions of an element.
+
+ghost use Rattle.std.specs.Prelude.{◌≡◌, ◌++◌, ◌⊎◌, IfOk, IfSome, IsNone, OnOk, option_to_list};
+ghost use Rattle.style_data.specs.Kept.{IsCompletedFor, IsKeptFor};
+ghost use Rattle.style_data.specs.TransitionSets.{AreTransitions, ComesLast, kept_with};
+ghost use Rattle.style_data.specs.Transitions.{IsMoment};
+ghost use Rattle.transition_update.specs.Updates.{cancelled_by, decision_for, style_change, transitions_after};
+
+use crate::event::StyleChangeEvent;
+use computed_style::Style;
+use interpolation::same;
+use std::alloc::{AllocError, Global};
+use style_data::{Decision, Gone, Transitions};
+use transition_list::matching_or_initial;
+use transition_start::decide;
+use value_types::PropertyId;
+
+/// What a style change event leaves of an element's transitions, and those that it cancelled, in the order of
+/// their properties.
+#[derive(Drop)]
+pub struct UpdatedTransitions {
+    pub transitions: Transitions,
+    pub gone: Vec<Gone>,
+}
+
+/// Applies the rules of CSS Transitions Level 1, section 3, to each property of a rendered element: from the
+/// transitions that it had, its before-change and its after-change style. Takes memory only for a third running or a
+/// third completed transition, and for those that are cancelled.
+pub fn update_transitions(
+    alloc: Global,
+    transitions: &Transitions,
+    before: &Style,
+    after: &Style,
+    event: StyleChangeEvent,
+) -> Result<UpdatedTransitions, AllocError>
+    requires { IsMoment event.time.0 }
+    ensures transitions { IfOk result (λ u. u.transitions ≡ transitions_after (style_change before.now after.now event) transitions.now) }
+    ensures gone { IfOk result (λ u. u.gone.items ≡ cancelled_by (style_change before.now after.now event) transitions.now) }
+{
+    let mut updated = UpdatedTransitions {
+        transitions: Transitions::new(alloc),
+        gone: Vec::new(alloc),
+    };
+    // Its clause says that no property has both a running and a completed one, which the rules want.
+    let _ = transitions.running();
+    for p in &PropertyId::ALL {
+        update_property(&mut updated, *p, transitions, before, after, event)?;
+    }
+    Ok(updated)
+}
+
+/// Puts what the rules leave of one property's transitions after those of the properties before it.
+fn update_property(
+    updated: &mut UpdatedTransitions,
+    p: PropertyId,
+    transitions: &Transitions,
+    before: &Style,
+    after: &Style,
+    event: StyleChangeEvent,
+) -> Result<(), AllocError>
+    requires time { IsMoment event.time.0 }
+    requires kept { AreTransitions transitions.now }
+    requires last { ComesLast p updated.old.transitions }
+    ensures transitions { OnOk result (updated.new.transitions ≡ (let d = decision_for (style_change before.now after.now event) transitions.now p in kept_with updated.old.transitions p d.running d.completed)) }
+    ensures gone { OnOk result (updated.new.gone.items ≡ updated.old.gone.items ++ option_to_list (decision_for (style_change before.now after.now event) transitions.now p).gone) }
+{
+    let decision = decision_for(p, transitions, before, after, event);
+    updated
+        .transitions
+        .keep(p, decision.running, decision.completed)?;
+    push_some(&mut updated.gone, decision.gone)
+}
+
+fn push_some(items: &mut Vec<Gone>, item: Option<Gone>) -> Result<(), AllocError>
+    ensures { OnOk result (items.new.items ≡ items.old.items ++ option_to_list item) }
+{
+    match item {
+        None => Ok(()),
+        Some(item) => Ok(items.push(item)?),
+    }
+}
+
+/// What the rules leave of one property's transitions.
+#[tactic(auto, unfolding(crate::specs::Updates::decision_for))]
+fn decision_for(
+    p: PropertyId,
+    transitions: &Transitions,
+    before: &Style,
+    after: &Style,
+    event: StyleChangeEvent,
+) -> Decision
+    requires time { IsMoment event.time.0 }
+    requires kept { AreTransitions transitions.now }
+    ensures decision { result ≡ decision_for (style_change before.now after.now event) transitions.now p }
+    ensures running { IfSome result.running (IsKeptFor p) }
+    ensures completed { IfSome result.completed (IsCompletedFor p) }
+    ensures apart { IsNone result.running ⊎ IsNone result.completed }
+{
+    let running = transitions.running_of(p);
+    let completed = transitions.completed_of(p);
+    let (from, to) = (before.value(p), after.value(p));
+    // Nothing starts, and nothing is there to change: no rule is asked.
+    if running.is_none() && completed.is_none() && same(from, to) {
+        return Decision {
+            running: None,
+            completed: None,
+            gone: None,
+        };
+    }
+    decide(
+        p,
+        running.as_ref(),
+        completed.as_ref(),
+        from,
+        to,
+        matching_or_initial(after.transitions(), p),
+        event.time,
+        event.generation,
+        event.position,
+    )
+}
