@@ -3,6 +3,8 @@
 #![tactic(auto)]
 
 #[cfg(test)]
+mod animations;
+#[cfg(test)]
 mod declarations;
 #[cfg(test)]
 mod entries;
