@@ -2,6 +2,8 @@
 #![tactic(auto)]
 
 #[cfg(test)]
+mod cascade;
+#[cfg(test)]
 mod matching;
 #[cfg(test)]
 mod selectors;

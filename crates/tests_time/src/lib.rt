@@ -5,6 +5,8 @@
 #[cfg(test)]
 mod animations;
 #[cfg(test)]
+mod changing;
+#[cfg(test)]
 mod declarations;
 #[cfg(test)]
 mod entries;

@@ -1,0 +1,2 @@
+pub mod Inheritance
+pub mod ThreeStyles

@@ -1,0 +1,4 @@
+pub mod ByNumber
+pub mod CascadeLemmas
+pub mod ListLemmas
+pub mod Validity

@@ -1,0 +1,16 @@
+//! Floor: document. Knows what an element declares and inherits, and no tree, no selector and no time.
+//!
+//! The cascade of one element: `compute(alloc, &declared, &NoSampling, &[], None)?` is the computed style of a root
+//! element with these winning declarations.
+#![tactic(auto)]
+
+mod laws;
+mod lists;
+mod style;
+mod values;
+
+pub use laws::{
+    computed_styles_are_valid, declarations_are_apart, inherits_by_the_table,
+    transitions_lie_on_top,
+};
+pub use style::compute;
