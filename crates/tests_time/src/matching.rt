@@ -6,8 +6,8 @@ ghost use Rattle.timing_types.specs.TimingLists.{IsListOf};
 use fix_num::Micros;
 use std::alloc::{AllocError, Global};
 use std::test::Fail;
-use transition_list::{matching, matching_or_initial};
 use timing_types::{Easing, Items};
+use transition_list::{matching, matching_or_initial};
 use value_types::{PropertyId, PropertyItem, Shorthand, TransitionLists};
 
 fn two<T: Drop>(alloc: Global, first: T, second: T) -> Result<Items<T>, AllocError>

@@ -7,9 +7,9 @@ use crate::fading::{fade, number};
 use fix_num::Micros;
 use std::test::Fail;
 use style_data::{Completed, Decision, Phase, Running};
+use timing_types::Easing;
 use transition_list::{Match, MatchedItem};
 use transition_start::{decide, elapsed_at, phase_at, value_at};
-use timing_types::Easing;
 use value_types::{PropertyId, Value};
 
 const HALF: Micros = Micros(500_000);
