@@ -1,0 +1,5 @@
+pub mod Distances
+pub mod KeyframeLemmas
+pub mod LawLemmas
+pub mod ListLemmas
+pub mod SampleLemmas

@@ -1,0 +1,6 @@
+pub mod EffectValues
+pub mod Last
+pub mod PropertyKeyframes
+pub mod SampleLists
+pub mod SampleProps
+pub mod Validity
