@@ -1,0 +1,3 @@
+pub mod KnownNames
+pub mod Longhands
+pub mod Declaring

@@ -1,0 +1,12 @@
+//! Floor: values. Knows no element and no time.
+//!
+//! What a declaration of any known name declares: properties, timing lists, and their shorthands.
+#![tactic(auto)]
+
+mod known_name;
+mod longhand;
+mod reader;
+
+pub use known_name::{ALL_LISTS, KnownName, list_name, shorthand_name};
+pub use longhand::Longhand;
+pub use reader::{name_of, read_longhands};
