@@ -2,25 +2,21 @@
 use Rattle.std.specs.Prelude.{◌≡◌, List, [], ◌∷◌, Result, Ok, Err, ⊤}
 use Rattle.token_parts.specs.Parts.{TokenPart}
 use Rattle.token_parts.specs.declared.fault.ValueFault.{ValueFault}
-use Rattle.token_parts.specs.declared.fault.ValueFault.TheVariants.{Unsupported, BoundItems, Bound, NoMemory}
-use Rattle.value_types.specs.declared.shorthand.Shorthand.{Shorthand}
+use Rattle.token_parts.specs.declared.fault.ValueFault.TheVariants.{Unsupported, NoMemory}
 use Rattle.value_text.specs.Reading.{declared_reading}
 use Rattle.list_text.specs.ItemReading.{list_of}
+use Rattle.shorthand_text.specs.Outcomes.{outcome_map}
+use Rattle.shorthand_text.specs.Sides.{shorthand_in}
 use Rattle.shorthand_text.specs.declared.known_name.KnownName.{KnownName}
 use Rattle.shorthand_text.specs.declared.known_name.KnownName.TheVariants as known
 use Rattle.shorthand_text.specs.declared.longhand.Longhand.{Longhand}
 use Rattle.shorthand_text.specs.declared.longhand.Longhand.TheVariants as given
 
--- the same with f of what it gives
-abbrev pub outcome_map : {A B : Type 0} → (A → B) → Result A ValueFault → Result B ValueFault
-outcome_map f (Ok x) = Ok (f x)
-outcome_map f (Err fault) = Err fault
-
 -- the longhands that the parts declare
 unfoldable pub declared_of : KnownName → List TokenPart → Result (List Longhand) ValueFault
 declared_of (known.Property p) parts = outcome_map (λ d. given.Property p d ∷ []) (declared_reading p parts)
 declared_of (known.List n) parts = outcome_map (λ v. given.List n v ∷ []) (list_of n parts)
-declared_of (known.Short s) parts = Err Unsupported
+declared_of (known.Short s) parts = shorthand_in s parts
 declared_of known.Transition parts = Err Unsupported
 declared_of known.Animation parts = Err Unsupported
 

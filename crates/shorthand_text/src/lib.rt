@@ -4,9 +4,13 @@
 #![tactic(auto)]
 
 mod known_name;
+mod laws;
 mod longhand;
 mod reader;
+mod shorthand;
+mod sides;
 
 pub use known_name::{ALL_LISTS, KnownName, list_name, shorthand_name};
+pub use laws::known_names_read_back;
 pub use longhand::Longhand;
 pub use reader::{name_of, read_longhands};

@@ -1,20 +1,22 @@
 //! The reader of a declaration's value.
-ghost use Rattle.std.specs.Prelude.{◌≡◌, ◌∷◌, [], All, IfErr, IfOk, find};
+ghost use Rattle.std.specs.Prelude.{◌≡◌, All, IfOk, find};
 ghost use Rattle.std.specs.Str.{str_eq_ignore_ascii_case};
 ghost use Rattle.css_token.specs.TokenLists.{LiesWithin};
 ghost use Rattle.token_parts.specs.Parts.{token_parts_of};
 ghost use Rattle.shorthand_text.specs.Declaring.{Reads, declared_of};
 ghost use Rattle.shorthand_text.specs.KnownNames.{all_lists, all_shorthands, is_text_of, known_name, name_of_list};
 ghost use Rattle.shorthand_text.specs.Longhands.{IsLonghand};
+ghost use Rattle.shorthand_text.specs.Sides.{shorthand_in};
 
 use crate::known_name::{ALL_LISTS, ALL_SHORTHANDS, KnownName, list_name};
-use crate::longhand::Longhand;
+use crate::longhand::{Longhand, one};
+use crate::shorthand::shorthand_longhands;
 use css_token::Token;
 use list_text::read_list;
 use std::alloc::Global;
-use token_parts::ValueFault;
+use token_parts::{ValueFault, parts};
 use value_text::read_value;
-use value_types::{ListName, PropertyId};
+use value_types::{ListName, PropertyId, Shorthand};
 
 /// The known name that these bytes are, whatever the ASCII case of their letters; `None` where they are none.
 #[tactic(auto, unfolding(crate::specs::KnownNames::known_name))]
@@ -67,17 +69,23 @@ pub fn read_longhands(
             Ok(value) => one(alloc, Longhand::List(list, value)),
             Err(fault) => Err(fault),
         },
-        _ => Err(ValueFault::Unsupported),
+        KnownName::Short(s) => short(alloc, s, text, tokens),
+        KnownName::Transition => Err(ValueFault::Unsupported),
+        KnownName::Animation => Err(ValueFault::Unsupported),
     }
 }
 
-fn one(alloc: Global, longhand: Longhand) -> Result<Vec<Longhand>, ValueFault>
-    ensures ok { IfOk result (λ v. v.items ≡ longhand ∷ []) }
-    ensures err { IfErr result (λ fault. fault ≡ ValueFault.NoMemory) }
+fn short(
+    alloc: Global,
+    s: Shorthand,
+    text: &str,
+    tokens: &[Token],
+) -> Result<Vec<Longhand>, ValueFault>
+    requires { All (LiesWithin text.now) tokens.now }
+    ensures { Reads (λ v. v.items) result (shorthand_in s (token_parts_of text.now tokens.now)) }
 {
-    let mut list = Vec::new(alloc);
-    match list.push(longhand) {
-        Ok(()) => Ok(list),
-        Err(_) => Err(ValueFault::NoMemory),
-    }
+    let Ok(parts) = parts(alloc, text.as_bytes(), tokens) else {
+        return Err(ValueFault::NoMemory);
+    };
+    shorthand_longhands(alloc, s, parts.as_slice())
 }
