@@ -33,10 +33,11 @@ pub fn read_list(
     let Ok(parts) = parts(alloc, text.as_bytes(), tokens) else {
         return Err(ValueFault::NoMemory);
     };
-    list_of(alloc, name, parts.as_slice())
+    list_of_parts(alloc, name, parts.as_slice())
 }
 
-fn list_of(alloc: Global, name: ListName, parts: &[Part]) -> Result<ListValue, ValueFault>
+/// As `read_list`, from the parts.
+pub fn list_of_parts(alloc: Global, name: ListName, parts: &[Part]) -> Result<ListValue, ValueFault>
     ensures { Gives (λ v. v) result (list_of name (map token_part parts.now)) }
 {
     if is_initial(parts) {

@@ -148,7 +148,7 @@ declared_moves p q declared.Absent r h = kind_moves p q kind.Absent r h
 declared_moves p q (declared.Visible v) r h = kind_moves p q kind.Visibility r h
 declared_moves p q (declared.Display v) r h = kind_moves p q kind.Display r h
 
-all_four : (a b c d : Longhand) → IsLonghand a → IsLonghand b → IsLonghand c → IsLonghand d → All IsLonghand (a ∷ b ∷ c ∷ d ∷ [])
+pub all_four : (a b c d : Longhand) → IsLonghand a → IsLonghand b → IsLonghand c → IsLonghand d → All IsLonghand (a ∷ b ∷ c ∷ d ∷ [])
 all_four a b c d first second third fourth =
     All-cons IsLonghand a (b ∷ c ∷ d ∷ []) first
     (All-cons IsLonghand b (c ∷ d ∷ []) second (All-cons IsLonghand c (d ∷ []) third (All-cons IsLonghand d [] fourth (All-nil IsLonghand))))

@@ -2,4 +2,6 @@ pub mod KnownNames
 pub mod Longhands
 pub mod Outcomes
 pub mod Sides
+pub mod Components
+pub mod TimingItems
 pub mod Declaring

@@ -31,6 +31,26 @@ pub const ALL_LISTS: [ListName; 12] = [
     ListName::AnimationPlayState,
 ];
 
+/// The lists of `transition`.
+pub(crate) const TRANSITION_LISTS: [ListName; 4] = [
+    ListName::TransitionProperty,
+    ListName::TransitionDuration,
+    ListName::TransitionDelay,
+    ListName::TransitionEasing,
+];
+
+/// The lists of `animation`.
+pub(crate) const ANIMATION_LISTS: [ListName; 8] = [
+    ListName::AnimationName,
+    ListName::AnimationDuration,
+    ListName::AnimationDelay,
+    ListName::AnimationEasing,
+    ListName::AnimationCount,
+    ListName::AnimationDirection,
+    ListName::AnimationFill,
+    ListName::AnimationPlayState,
+];
+
 /// The shorthands.
 pub const ALL_SHORTHANDS: [KnownName; 7] = [
     KnownName::Short(Shorthand::All),

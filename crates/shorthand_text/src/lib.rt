@@ -3,12 +3,15 @@
 //! What a declaration of any known name declares: properties, timing lists, and their shorthands.
 #![tactic(auto)]
 
+mod animation;
+mod components;
 mod known_name;
 mod laws;
 mod longhand;
 mod reader;
 mod shorthand;
 mod sides;
+mod transition;
 
 pub use known_name::{ALL_LISTS, KnownName, list_name, shorthand_name};
 pub use laws::known_names_read_back;

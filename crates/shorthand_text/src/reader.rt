@@ -1,22 +1,23 @@
 //! The reader of a declaration's value.
-ghost use Rattle.std.specs.Prelude.{◌≡◌, All, IfOk, find};
+ghost use Rattle.std.specs.Prelude.{◌≡◌, All, IfOk, find, map};
 ghost use Rattle.std.specs.Str.{str_eq_ignore_ascii_case};
 ghost use Rattle.css_token.specs.TokenLists.{LiesWithin};
-ghost use Rattle.token_parts.specs.Parts.{token_parts_of};
+ghost use Rattle.token_parts.specs.Parts.{token_part, token_parts_of};
 ghost use Rattle.shorthand_text.specs.Declaring.{Reads, declared_of};
 ghost use Rattle.shorthand_text.specs.KnownNames.{all_lists, all_shorthands, is_text_of, known_name, name_of_list};
 ghost use Rattle.shorthand_text.specs.Longhands.{IsLonghand};
-ghost use Rattle.shorthand_text.specs.Sides.{shorthand_in};
 
+use crate::animation::animation_lists;
 use crate::known_name::{ALL_LISTS, ALL_SHORTHANDS, KnownName, list_name};
 use crate::longhand::{Longhand, one};
 use crate::shorthand::shorthand_longhands;
+use crate::transition::transition_lists;
 use css_token::Token;
-use list_text::read_list;
+use list_text::list_of_parts;
 use std::alloc::Global;
-use token_parts::{ValueFault, parts};
-use value_text::read_value;
-use value_types::{ListName, PropertyId, Shorthand};
+use token_parts::{Part, ValueFault, parts};
+use value_text::declared_of_parts;
+use value_types::{ListName, PropertyId};
 
 /// The known name that these bytes are, whatever the ASCII case of their letters; `None` where they are none.
 #[tactic(auto, unfolding(crate::specs::KnownNames::known_name))]
@@ -49,7 +50,6 @@ fn shorthand_of(text: &[u8]) -> Option<KnownName>
 
 /// What the tokens of the text declare of the known name, all longhands of a shorthand. `Unsupported`: no value
 /// of it has this spelling. `BoundItems`: a list of more than 32 items. `Bound`: a number past its limit.
-#[tactic(auto, unfolding(crate::specs::Declaring::declared_of))]
 pub fn read_longhands(
     alloc: Global,
     name: KnownName,
@@ -60,32 +60,31 @@ pub fn read_longhands(
     ensures reading { Reads (λ v. v.items) result (declared_of name (token_parts_of text.now tokens.now)) }
     ensures each { IfOk result (λ v. All IsLonghand v.items) }
 {
-    match name {
-        KnownName::Property(p) => match read_value(alloc, p, text, tokens) {
-            Ok(declared) => one(alloc, Longhand::Property(p, declared)),
-            Err(fault) => Err(fault),
-        },
-        KnownName::List(list) => match read_list(alloc, list, text, tokens) {
-            Ok(value) => one(alloc, Longhand::List(list, value)),
-            Err(fault) => Err(fault),
-        },
-        KnownName::Short(s) => short(alloc, s, text, tokens),
-        KnownName::Transition => Err(ValueFault::Unsupported),
-        KnownName::Animation => Err(ValueFault::Unsupported),
-    }
-}
-
-fn short(
-    alloc: Global,
-    s: Shorthand,
-    text: &str,
-    tokens: &[Token],
-) -> Result<Vec<Longhand>, ValueFault>
-    requires { All (LiesWithin text.now) tokens.now }
-    ensures { Reads (λ v. v.items) result (shorthand_in s (token_parts_of text.now tokens.now)) }
-{
     let Ok(parts) = parts(alloc, text.as_bytes(), tokens) else {
         return Err(ValueFault::NoMemory);
     };
-    shorthand_longhands(alloc, s, parts.as_slice())
+    longhands_of(alloc, name, parts.as_slice())
+}
+
+#[tactic(auto, unfolding(crate::specs::Declaring::declared_of))]
+fn longhands_of(
+    alloc: Global,
+    name: KnownName,
+    parts: &[Part],
+) -> Result<Vec<Longhand>, ValueFault>
+    ensures { Reads (λ v. v.items) result (declared_of name (map token_part parts.now)) }
+{
+    match name {
+        KnownName::Property(p) => match declared_of_parts(p, parts) {
+            Ok(declared) => one(alloc, Longhand::Property(p, declared)),
+            Err(fault) => Err(fault),
+        },
+        KnownName::List(list) => match list_of_parts(alloc, list, parts) {
+            Ok(value) => one(alloc, Longhand::List(list, value)),
+            Err(fault) => Err(fault),
+        },
+        KnownName::Short(s) => shorthand_longhands(alloc, s, parts),
+        KnownName::Transition => transition_lists(alloc, parts),
+        KnownName::Animation => animation_lists(alloc, parts),
+    }
 }

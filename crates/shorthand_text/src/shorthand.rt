@@ -1,5 +1,5 @@
 //! The shorthands of properties (CSS Cascade 5, "Shorthand Properties").
-ghost use Rattle.std.specs.Prelude.{◌≡◌, ◌∷◌, ◌++◌, [], map, IfErr, IfOk, OnErr, OnOk};
+ghost use Rattle.std.specs.Prelude.{◌≡◌, ◌∷◌, ◌++◌, [], map, Ok, OnOk};
 ghost use Rattle.token_parts.specs.Parts.{token_part};
 ghost use Rattle.value_text.specs.Reading.{or_unsupported};
 ghost use Rattle.shorthand_text.specs.Declaring.{Reads};
@@ -96,11 +96,22 @@ fn properties_by(
 }
 
 /// Puts the initial value of each list after the last.
-pub(crate) fn push_initial(list: &mut Vec<Longhand>, names: &[ListName]) -> Result<(), AllocError>
+fn push_initial(list: &mut Vec<Longhand>, names: &[ListName]) -> Result<(), AllocError>
     ensures { OnOk result (list.new.items ≡ list.old.items ++ initial_lists names.now) }
 {
     for name in names {
         list.push(Longhand::List(*name, ListValue::Initial))?;
     }
     Ok(())
+}
+
+/// The initial value of each list.
+pub(crate) fn initial(alloc: Global, names: &[ListName]) -> Result<Vec<Longhand>, ValueFault>
+    ensures { Reads (λ v. v.items) result (Ok (initial_lists names.now)) }
+{
+    let mut list = Vec::new(alloc);
+    match push_initial(&mut list, names) {
+        Ok(()) => Ok(list),
+        Err(_) => Err(ValueFault::NoMemory),
+    }
 }

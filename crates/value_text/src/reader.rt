@@ -30,11 +30,12 @@ pub fn read_value(
     let Ok(parts) = parts(alloc, text.as_bytes(), tokens) else {
         return Err(ValueFault::NoMemory);
     };
-    read_parts(p, parts.as_slice())
+    declared_of_parts(p, parts.as_slice())
 }
 
+/// As `read_value`, from the parts.
 #[tactic(auto, unfolding(crate::specs::Reading::declared_reading))]
-fn read_parts(p: PropertyId, parts: &[Part]) -> Result<Declared, ValueFault>
+pub fn declared_of_parts(p: PropertyId, parts: &[Part]) -> Result<Declared, ValueFault>
     ensures { result ≡ declared_reading p (map token_part parts.now) }
 {
     match cascade_keyword(parts) {
