@@ -13,9 +13,9 @@ use crate::number::{clamped, natural};
 use css_token::Token;
 use fix_num::has_no_point;
 use std::alloc::Global;
-use token_parts::{Part, ValueFault, after_comma, is_keyword, look_up, parts};
 use timing_types::limits::{MAX_ORDINATE, MAX_STEPS};
 use timing_types::{Easing, Jump};
+use token_parts::{Part, ValueFault, after_comma, is_keyword, look_up, parts};
 
 const MOST_STEPS: i64 = MAX_STEPS as i64;
 

@@ -13,8 +13,10 @@ use crate::number::{clamped, natural};
 use fix_num::limits::{MAX_NUMBER, MAX_TIME};
 use fix_num::{Fix, Micros};
 use std::alloc::{AllocError, Global};
+use timing_types::{
+    Count, Direction, Easing, Fill, Name, PlayState, is_animation_name, is_reserved,
+};
 use token_parts::{Part, is_keyword, look_up};
-use timing_types::{Count, Direction, Easing, Fill, Name, PlayState, is_animation_name, is_reserved};
 use value_types::{ListName, PropertyId, PropertyItem, Shorthand};
 
 const LONGEST: i64 = MAX_TIME as i64;

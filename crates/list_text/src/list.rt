@@ -12,9 +12,9 @@ use crate::group::groups;
 use crate::item::Item;
 use css_token::Token;
 use std::alloc::{AllocError, Global};
-use token_parts::{Part, ValueFault, is_keyword, parts};
-use timing_types::limits::MAX_ITEMS;
 use timing_types::Items;
+use timing_types::limits::MAX_ITEMS;
+use token_parts::{Part, ValueFault, is_keyword, parts};
 use value_types::{ListName, ListValue};
 
 /// The value of the timing list that the tokens of the text spell (CSS Transitions 1, "Transitions"; CSS

@@ -87,8 +87,8 @@ one_passed meaning f xs i d h none p =
     record {
       fit = sym later.0 ∙ sym (ap (fitting meaning) here) ∙ p.fit;
       rest = ap (λ l. l ++ others meaning next) front
-      ∙ append_assoc (map f (take i xs)) (f (get_or xs i d) ∷ []) (others meaning next)
-      ∙ ap (λ l. map f (take i xs) ++ l) (sym later.1 ∙ sym (ap (others meaning) here)) ∙ p.rest;
+          ∙ append_assoc (map f (take i xs)) (f (get_or xs i d) ∷ []) (others meaning next)
+          ∙ ap (λ l. map f (take i xs) ++ l) (sym later.1 ∙ sym (ap (others meaning) here)) ∙ p.rest;
     }
 
 pub first_here : {A T : Type 0} (meaning : List TokenPart → Option T) (f : A → List TokenPart) (xs : List A) (i : ℕ) (d : A) (x : T) → i < length xs
@@ -98,15 +98,17 @@ first_here meaning f xs i d x h fits p =
     let next = map f (drop (i + 1) xs) in
     let here : map f (drop i xs) ≡ f (get_or xs i d) ∷ next = ap (map f) (drop_more xs i d h) in
     let now = fits_here meaning x (f (get_or xs i d)) next fits in
-    let one : suc i ≡ i + 1 = omega arith in
-    (sym (sym p.fit ∙ ap (fitting meaning) here ∙ now.0),
-    map-append f (take i xs) (drop (suc i) xs) ∙ ap (λ n. map f (take i xs) ++ map f (drop n xs)) one
-    ∙ ap (λ l. map f (take i xs) ++ l) (sym (ap (others meaning) here ∙ now.1)) ∙ p.rest)
+    let one : suc i ≡ i + 1 = omega arith in (
+      sym (sym p.fit ∙ ap (fitting meaning) here ∙ now.0),
+      map-append f (take i xs) (drop (suc i) xs) ∙ ap (λ n. map f (take i xs) ++ map f (drop n xs)) one
+          ∙ ap (λ l. map f (take i xs) ++ l) (sym (ap (others meaning) here ∙ now.1)) ∙ p.rest,
+    )
 
 pub all_passed : {A T : Type 0} (meaning : List TokenPart → Option T) (f : A → List TokenPart) (xs : List A) (i : ℕ) → length xs ≤ i → ArePassed meaning f xs i
     → (None ≡ fitting meaning (map f xs)) × (map f xs ≡ others meaning (map f xs))
 all_passed meaning f xs i h p =
     let nothing : drop i xs ≡ [] = drop_all i xs h in
-    let everything : take i xs ≡ xs = take_all i xs h in
-    (ap (λ l. fitting meaning (map f l)) (sym nothing) ∙ p.fit,
-    sym (append-nil (map f xs)) ∙ ap (λ l. map f l ++ []) (sym everything) ∙ ap (λ l. map f (take i xs) ++ others meaning (map f l)) (sym nothing) ∙ p.rest)
+    let everything : take i xs ≡ xs = take_all i xs h in (
+      ap (λ l. fitting meaning (map f l)) (sym nothing) ∙ p.fit,
+      sym (append-nil (map f xs)) ∙ ap (λ l. map f l ++ []) (sym everything) ∙ ap (λ l. map f (take i xs) ++ others meaning (map f l)) (sym nothing) ∙ p.rest,
+    )

@@ -1,14 +1,11 @@
 -- What a known name declares may be declared there.
-use Rattle.std.proofs.Common.{◌≡◌, refl, sym, subst, List, [], ◌∷◌, Result, Ok, Err}
+use Rattle.std.proofs.Common.{◌≡◌, sym, subst, List, [], ◌∷◌, Ok}
 use Rattle.std.specs.Prelude.{All}
 use Rattle.std.proofs.lemmas.List.Elements.{All-cons, All-nil}
 use Rattle.token_parts.specs.Parts.{TokenPart}
-use Rattle.token_parts.specs.declared.fault.ValueFault.{ValueFault}
 use Rattle.value_types.specs.ListValues.{IsListValueFor}
-use Rattle.value_types.specs.declared.declared.Declared.{Declared}
 use Rattle.value_types.specs.declared.list_value.ListName.{ListName}
 use Rattle.value_types.specs.declared.list_value.ListValue.{ListValue}
-use Rattle.value_types.specs.declared.property.PropertyId.{PropertyId}
 use Rattle.value_text.specs.Reading.{declared_reading}
 use Rattle.value_text.proofs.DeclaredLemmas.{answer_declared}
 use Rattle.value_text.proofs.ValueLemmas.{answer_from}

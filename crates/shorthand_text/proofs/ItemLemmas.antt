@@ -1,5 +1,5 @@
 -- The parts of an item that were taken one after the other are the item's.
-use Rattle.std.proofs.Common.{◌≡◌, refl, ap, sym, ◌∙◌, List, ℕ, Option}
+use Rattle.std.proofs.Common.{◌≡◌, refl, List, ℕ, Option}
 use Rattle.fix_num.specs.declared.units.Micros.{Micros}
 use Rattle.token_parts.specs.Parts.{TokenPart}
 use Rattle.token_parts.specs.Steps.{◌>>=◌}

@@ -1,17 +1,15 @@
 -- What the shorthands of timing lists declare may be declared there.
-use Rattle.std.proofs.Common.{◌≡◌, ℕ, suc, ◌+◌, ◌==◌, ◌<◌, ◌≤◌, nat_le, nat_lt, refl, arith, ap, sym, subst, ◌∙◌, List, [], ◌∷◌, ◌++◌, length, map, cond, ◌&&◌, ◌^◌, Bool, true, false, Option, Some, None, Result, Ok, Err, ℤ, pos, negsuc, ◌≤ℤ◌, unsigned_abs, codes}
-use Rattle.std.specs.Prelude.{All, filter_map, option_map, unwrap_or}
+use Rattle.std.proofs.Common.{◌≡◌, ℕ, suc, ◌+◌, ◌==◌, ◌<◌, ◌≤◌, nat_le, nat_lt, refl, arith, ap, sym, subst, ◌∙◌, List, [], ◌∷◌, length, map, cond, ◌&&◌, ◌^◌, Bool, true, false, Option, Some, None, Ok, Err, pos, unsigned_abs}
+use Rattle.std.specs.Prelude.{All, filter_map, unwrap_or}
 use Rattle.std.specs.List.{list_all, list_any}
 use Rattle.std.proofs.lemmas.Bool.Decides.{nat_tests}
 use Rattle.std.proofs.lemmas.Int.{ints}
 use Rattle.std.proofs.lemmas.List.{length-map}
 use Rattle.std.proofs.lemmas.List.Elements.{All-append, All-cons, All-map, All-nil, All-weaker}
 use Rattle.fix_num.specs.declared.units.Micros.{Micros}
-use Rattle.token_parts.specs.Keywords.{is_keyword, look_up}
 use Rattle.token_parts.specs.Parts.{TokenPart}
 use Rattle.token_parts.specs.Steps.{◌>>=◌}
-use Rattle.token_parts.specs.declared.fault.ValueFault.{ValueFault}
-use Rattle.token_parts.specs.declared.fault.ValueFault.TheVariants.{Unsupported, BoundItems, Bound}
+use Rattle.token_parts.specs.declared.fault.ValueFault.TheVariants.{BoundItems, Bound}
 use Rattle.timing_types.specs.Names.{IsNameItem}
 use Rattle.timing_types.specs.Timing.{IsAny, IsCount, IsDelay, IsDuration, IsEasing, ease}
 use Rattle.timing_types.specs.TimingLists.{IsListOf, no_time, once}
@@ -26,14 +24,12 @@ use Rattle.timing_types.specs.declared.timing.PlayState.TheVariants.{Running}
 use Rattle.value_types.specs.declared.list_value.ListName.TheVariants as list
 use Rattle.value_types.specs.declared.list_value.ListValue.TheVariants.{Properties, Times, Easings, Names, Counts, Directions, Fills, States}
 use Rattle.value_types.specs.declared.shorthand.PropertyItem.{PropertyItem}
-use Rattle.list_text.specs.ItemReading.{count_within, each_of, groups_of, is_initial, items_within, micros, micros_within, word_item}
-use Rattle.list_text.specs.Lists.{name_of_word}
+use Rattle.list_text.specs.ItemReading.{count_within, each_of, groups_of, is_initial, items_within, micros, micros_within}
 use Rattle.list_text.specs.Numbers.{not_negative}
 use Rattle.list_text.specs.Reading.{easing_within}
 use Rattle.list_text.proofs.ListLemmas.{cuts, easing_judges, name_judges}
 use Rattle.list_text.proofs.OptionLemmas.{bound, mapped}
 use Rattle.list_text.proofs.TimeLemmas.{count_judges}
-use Rattle.list_text.proofs.ViewLemmas.{not_negative_was}
 use Rattle.shorthand_text.specs.Components.{components_of, first_some, fitting, others}
 use Rattle.shorthand_text.specs.Longhands.{IsLonghand}
 use Rattle.shorthand_text.specs.Outcomes.{outcome_map}
@@ -192,7 +188,7 @@ transition_kept property duration first c2 cs found passes =
       duration = duration_keeps first duration found (and_first (micros_within duration) (micros_within (unwrap_or (fitting time_in c2) no_time)) times);
       delay = delay_keeps (unwrap_or (fitting time_in c2) no_time) (and_second (micros_within duration) (micros_within (unwrap_or (fitting time_in c2) no_time)) times);
       easing = or_initial_keeps IsEasing easing_within easing_in ease ease_is easing_keeps cs (fitting easing_in cs) refl
-      (and_second (micros_within duration && micros_within (unwrap_or (fitting time_in c2) no_time)) (easing_within (unwrap_or (fitting easing_in cs) ease)) passes);
+          (and_second (micros_within duration && micros_within (unwrap_or (fitting time_in c2) no_time)) (easing_within (unwrap_or (fitting easing_in cs) ease)) passes);
     }
 
 transition_made : (cs : List (List TokenPart)) (i : TransitionItem) → transition_from cs ≡ Some i → transition_within i ≡ true → IsTransitionItem i

@@ -1,6 +1,6 @@
 -- The shorthands of timing lists (CSS Transitions 1, "The transition Shorthand Property"; CSS Animations 1, "The animation shorthand
 -- property").
-use Rattle.std.specs.Prelude.{◌≡◌, ℕ, ◌==◌, pos, Bool, true, ◌&&◌, nat_lt, if◌then◌else◌, false, List, [], ◌∷◌, ◌++◌, length, map, filter_map, codes, Option, None, Some, option_map, unwrap_or, Result, Ok, Err}
+use Rattle.std.specs.Prelude.{ℕ, ◌==◌, pos, Bool, true, ◌&&◌, nat_lt, if◌then◌else◌, false, List, [], ◌∷◌, ◌++◌, length, map, filter_map, codes, Option, None, Some, option_map, unwrap_or, Result, Ok}
 use Rattle.std.specs.Option.{is_none}
 use Rattle.std.specs.List.{list_any}
 use Rattle.fix_num.specs.declared.units.Micros.{Micros}

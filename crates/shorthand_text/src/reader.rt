@@ -67,11 +67,7 @@ pub fn read_longhands(
 }
 
 #[tactic(auto, unfolding(crate::specs::Declaring::declared_of))]
-fn longhands_of(
-    alloc: Global,
-    name: KnownName,
-    parts: &[Part],
-) -> Result<Vec<Longhand>, ValueFault>
+fn longhands_of(alloc: Global, name: KnownName, parts: &[Part]) -> Result<Vec<Longhand>, ValueFault>
     ensures { Reads (λ v. v.items) result (declared_of name (map token_part parts.now)) }
 {
     match name {

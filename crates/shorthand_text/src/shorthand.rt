@@ -29,17 +29,16 @@ pub(crate) fn shorthand_longhands(
     }
 }
 
-fn value_longhands(
-    alloc: Global,
-    s: Shorthand,
-    parts: &[Part],
-) -> Result<Vec<Longhand>, ValueFault>
+fn value_longhands(alloc: Global, s: Shorthand, parts: &[Part]) -> Result<Vec<Longhand>, ValueFault>
     ensures { Reads (λ v. v.items) result (value_in_all s (map token_part parts.now)) }
 {
     match s {
         Shorthand::All => Err(ValueFault::Unsupported),
         Shorthand::Background => match value_of_parts(PropertyId::BackgroundColor, parts) {
-            Ok(color) => one(alloc, Longhand::Property(PropertyId::BackgroundColor, color)),
+            Ok(color) => one(
+                alloc,
+                Longhand::Property(PropertyId::BackgroundColor, color),
+            ),
             Err(fault) => Err(fault),
         },
         Shorthand::Inset => box_longhands(alloc, longhands(s), parts),

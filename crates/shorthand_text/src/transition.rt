@@ -109,7 +109,10 @@ fn property_of(
     }
 }
 
-fn property_in(alloc: Global, component: &[Part]) -> Result<Option<Option<PropertyItem>>, AllocError>
+fn property_in(
+    alloc: Global,
+    component: &[Part],
+) -> Result<Option<Option<PropertyItem>>, AllocError>
     ensures { IfOk result (λ o. o ≡ property_of (map token_part component.now ∷ [])) }
 {
     if is_none(component) {

@@ -15,7 +15,9 @@ use crate::number::{integer, number};
 use crate::size::{length, length_or_percent, percent, zero_pixels};
 use fix_num::{Fix, rnd};
 use token_parts::{Part, ValueFault, is_keyword};
-use value_types::{Declared, Display, PropertyId, Size, ValueKind, ValueRange, Visibility, range_of};
+use value_types::{
+    Declared, Display, PropertyId, Size, ValueKind, ValueRange, Visibility, range_of,
+};
 
 /// The value of this kind that the parts spell for the property.
 pub(crate) fn of_kind(
