@@ -4,4 +4,5 @@ pub mod ItemLemmas
 pub mod NameLemmas
 pub mod OutcomeLemmas
 pub mod SideLemmas
+pub mod TargetLemmas
 pub mod TimingLemmas

@@ -104,3 +104,13 @@ pub reads_valid : {X Y : Type 0} (view : X → Y) (P : Y → Type 0) (r : Result
     → ((y : Y) → wanted ≡ Ok y → P y) → IfOk r (λ x. P (view x))
 reads_valid view P (Ok x) wanted h valid = valid (view x) h
 reads_valid view P (Err e) wanted h valid = tt
+
+-- what is said alike of what each gives and of what it is read from
+pub given_map : {A B C : Type 0} (f : A → Result B ValueFault) (g : B → C) (h : A → C) → ((x : A) (y : B) → f x ≡ Ok y → g y ≡ h x)
+    → (xs : List A) (ys : List B) → all_given (map f xs) ≡ Ok ys → map g ys ≡ map h xs
+given_map f g h each [] ys is = let e : [] ≡ ys = cc in ap (map g) (sym e)
+given_map f g h each (x ∷ xs) ys is =
+    let found = both_given ◌∷◌ (f x) (all_given (map f xs)) ys is in
+    let first : g found.0 ≡ h x = each x found.0 found.2 in
+    let rest : map g found.1 ≡ map h xs = given_map f g h each xs found.1 found.3 in
+    ap (map g) (sym found.4) ∙ ap (λ c. c ∷ map g found.1) first ∙ ap (λ l. h x ∷ l) rest

@@ -34,7 +34,7 @@ use Rattle.shorthand_text.proofs.OutcomeLemmas.{given_each, map_given, then_give
 
 -- ---- keywords of the cascade
 
-supported : {A B : Type 0} (f : A → B) (o : Option A) (y : B) → or_unsupported (option_map f o) ≡ Ok y → (x : A) × (o ≡ Some x) × (f x ≡ y)
+pub supported : {A B : Type 0} (f : A → B) (o : Option A) (y : B) → or_unsupported (option_map f o) ≡ Ok y → (x : A) × (o ≡ Some x) × (f x ≡ y)
 supported f None y h = absurd (cc)
 supported f (Some x) y h = let e : f x ≡ y = cc in (x, refl, e)
 

@@ -93,7 +93,7 @@ within_at within xs ys false true few all h = let e : xs ≡ ys = cc in (e, grin
 within_at within xs ys false false few all h = absurd (cc)
 
 -- what passed all tests was found
-passed_within : {T : Type 0} (within : T → Bool) (o : Option (List T)) (ys : List T) → items_within within o ≡ Ok ys → (o ≡ Some ys) × (length ys ≤ 32) × (list_all within ys ≡ true)
+pub passed_within : {T : Type 0} (within : T → Bool) (o : Option (List T)) (ys : List T) → items_within within o ≡ Ok ys → (o ≡ Some ys) × (length ys ≤ 32) × (list_all within ys ≡ true)
 passed_within within None ys h = absurd (cc)
 passed_within {T} within (Some xs) ys h =
     let at = within_at within xs ys (nat_lt 32 (length xs)) (list_all within xs) refl refl h in

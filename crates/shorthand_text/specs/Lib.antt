@@ -5,3 +5,4 @@ pub mod Sides
 pub mod Components
 pub mod TimingItems
 pub mod Declaring
+pub mod Targets
