@@ -1,6 +1,6 @@
 -- What is given values, and how many items.
-use Rattle.std.proofs.Common.{◌≡◌, ℕ, suc, ◌+◌, ◌<◌, ◌≤◌, nat_lt, refl, arith, ap, sym, subst, ◌∙◌, inl, inr, ◌⊎◌, List, [], ◌∷◌, ◌++◌, length, map, cond, ◌&&◌, Bool, true, false, Option, Some, None, Result, Ok, Err}
-use Rattle.std.specs.Prelude.{All, filter_map, option_map}
+use Rattle.std.proofs.Common.{◌≡◌, suc, ◌+◌, ◌≤◌, nat_lt, refl, arith, ap, sym, subst, ◌∙◌, inl, inr, List, [], ◌∷◌, ◌++◌, length, map, cond, ◌&&◌, Bool, true, false, Option, Some, None, Result, Ok}
+use Rattle.std.specs.Prelude.{All, filter_map}
 use Rattle.std.specs.List.{list_any}
 use Rattle.std.proofs.lemmas.Bool.Decides.{nat_tests}
 use Rattle.std.proofs.lemmas.List.{length-map, map-append}
@@ -162,12 +162,12 @@ transition_length parts false ls h =
     subst AreOfOneLength found.2 (record {
       count = length items;
       each = all_of_four (HasItems (length items))
-      (given.List list.TransitionProperty (Properties (filter_map (λ i. i.property) items)))
-      (given.List list.TransitionDuration (Times (map (λ i. i.duration) items)))
-      (given.List list.TransitionDelay (Times (map (λ i. i.delay) items)))
-      (given.List list.TransitionEasing (Easings (map (λ i. i.easing) items)))
-      (properties_given items (list_any is_nothing items) (nat_lt 1 (length items)) refl refl lone)
-      (inl (mapped_length (λ i. i.duration) items)) (inl (mapped_length (λ i. i.delay) items)) (inl (mapped_length (λ i. i.easing) items));
+          (given.List list.TransitionProperty (Properties (filter_map (λ i. i.property) items)))
+          (given.List list.TransitionDuration (Times (map (λ i. i.duration) items)))
+          (given.List list.TransitionDelay (Times (map (λ i. i.delay) items)))
+          (given.List list.TransitionEasing (Easings (map (λ i. i.easing) items)))
+          (properties_given items (list_any is_nothing items) (nat_lt 1 (length items)) refl refl lone)
+          (inl (mapped_length (λ i. i.duration) items)) (inl (mapped_length (λ i. i.delay) items)) (inl (mapped_length (λ i. i.easing) items));
     })
 
 animation_length : (parts : List TokenPart) (b : Bool) (ls : List Longhand)
@@ -181,18 +181,18 @@ animation_length parts false ls h =
     subst AreOfOneLength found.2 (record {
       count = length items;
       each = All-append (HasItems (length items)) (timing_longhands items) (playing_longhands items)
-      (all_of_four (HasItems (length items))
-      (given.List list.AnimationName (Names (map (λ i. i.name) items)))
-      (given.List list.AnimationDuration (Times (map (λ i. i.duration) items)))
-      (given.List list.AnimationDelay (Times (map (λ i. i.delay) items)))
-      (given.List list.AnimationEasing (Easings (map (λ i. i.easing) items)))
-      (inl (mapped_length (λ i. i.name) items)) (inl (mapped_length (λ i. i.duration) items)) (inl (mapped_length (λ i. i.delay) items)) (inl (mapped_length (λ i. i.easing) items)))
-      (all_of_four (HasItems (length items))
-      (given.List list.AnimationCount (Counts (map (λ i. i.count) items)))
-      (given.List list.AnimationDirection (Directions (map (λ i. i.direction) items)))
-      (given.List list.AnimationFill (Fills (map (λ i. i.fill) items)))
-      (given.List list.AnimationPlayState (States (map (λ i. i.state) items)))
-      (inl (mapped_length (λ i. i.count) items)) (inl (mapped_length (λ i. i.direction) items)) (inl (mapped_length (λ i. i.fill) items)) (inl (mapped_length (λ i. i.state) items)));
+          (all_of_four (HasItems (length items))
+          (given.List list.AnimationName (Names (map (λ i. i.name) items)))
+          (given.List list.AnimationDuration (Times (map (λ i. i.duration) items)))
+          (given.List list.AnimationDelay (Times (map (λ i. i.delay) items)))
+          (given.List list.AnimationEasing (Easings (map (λ i. i.easing) items)))
+          (inl (mapped_length (λ i. i.name) items)) (inl (mapped_length (λ i. i.duration) items)) (inl (mapped_length (λ i. i.delay) items)) (inl (mapped_length (λ i. i.easing) items)))
+          (all_of_four (HasItems (length items))
+          (given.List list.AnimationCount (Counts (map (λ i. i.count) items)))
+          (given.List list.AnimationDirection (Directions (map (λ i. i.direction) items)))
+          (given.List list.AnimationFill (Fills (map (λ i. i.fill) items)))
+          (given.List list.AnimationPlayState (States (map (λ i. i.state) items)))
+          (inl (mapped_length (λ i. i.count) items)) (inl (mapped_length (λ i. i.direction) items)) (inl (mapped_length (λ i. i.fill) items)) (inl (mapped_length (λ i. i.state) items)));
     })
 
 pub transitions_of_one_length : (parts : List TokenPart) (ls : List Longhand) → declared_of known.Transition parts ≡ Ok ls → AreOfOneLength ls
