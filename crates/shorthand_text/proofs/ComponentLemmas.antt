@@ -6,21 +6,21 @@ use Rattle.std.proofs.lemmas.List.{drop_all, drop_more, map-append, take_all, ta
 use Rattle.token_parts.specs.Parts.{TokenPart}
 use Rattle.list_text.specs.ItemReading.{is_inside, onto_first_group}
 use Rattle.list_text.proofs.GroupLemmas.{onto_first-append, onto_first-nil, rest_is, slice_more}
-use Rattle.shorthand_text.specs.Components.{behind, components_of, first_some, fitting, others}
+use Rattle.shorthand_text.specs.Components.{behind, component_values_of, first_some, fitting, others}
 
 at_end : (done whole : List (List TokenPart)) (front : List TokenPart) (inside : Bool) (p : TokenPart) (rest : List TokenPart) → is_inside inside p ≡ false
-    → done ++ onto_first_group front (components_of inside (p ∷ rest)) ≡ whole → (done ++ (front ++ p ∷ []) ∷ []) ++ onto_first_group [] (components_of false rest) ≡ whole
+    → done ++ onto_first_group front (component_values_of inside (p ∷ rest)) ≡ whole → (done ++ (front ++ p ∷ []) ∷ []) ++ onto_first_group [] (component_values_of false rest) ≡ whole
 at_end done whole front inside p rest e h =
-    let cut : components_of inside (p ∷ rest) ≡ (p ∷ []) ∷ components_of false rest = rw e refl in
-    let told : done ++ (front ++ p ∷ []) ∷ components_of false rest ≡ whole = subst (λ cs. done ++ onto_first_group front cs ≡ whole) cut h in
-    rw (onto_first-nil (components_of false rest)) (append_assoc done ((front ++ p ∷ []) ∷ []) (components_of false rest) ∙ told)
+    let cut : component_values_of inside (p ∷ rest) ≡ (p ∷ []) ∷ component_values_of false rest = rw e refl in
+    let told : done ++ (front ++ p ∷ []) ∷ component_values_of false rest ≡ whole = subst (λ cs. done ++ onto_first_group front cs ≡ whole) cut h in
+    rw (onto_first-nil (component_values_of false rest)) (append_assoc done ((front ++ p ∷ []) ∷ []) (component_values_of false rest) ∙ told)
 
 within : (done whole : List (List TokenPart)) (front : List TokenPart) (inside : Bool) (p : TokenPart) (rest : List TokenPart) → is_inside inside p ≡ true
-    → done ++ onto_first_group front (components_of inside (p ∷ rest)) ≡ whole → done ++ onto_first_group (front ++ p ∷ []) (components_of true rest) ≡ whole
+    → done ++ onto_first_group front (component_values_of inside (p ∷ rest)) ≡ whole → done ++ onto_first_group (front ++ p ∷ []) (component_values_of true rest) ≡ whole
 within done whole front inside p rest e h =
-    let grown : components_of inside (p ∷ rest) ≡ onto_first_group (p ∷ []) (components_of true rest) = rw e refl in
-    let told : done ++ onto_first_group front (onto_first_group (p ∷ []) (components_of true rest)) ≡ whole = subst (λ cs. done ++ onto_first_group front cs ≡ whole) grown h in
-    subst (λ cs. done ++ cs ≡ whole) (onto_first-append front (p ∷ []) (components_of true rest)) told
+    let grown : component_values_of inside (p ∷ rest) ≡ onto_first_group (p ∷ []) (component_values_of true rest) = rw e refl in
+    let told : done ++ onto_first_group front (onto_first_group (p ∷ []) (component_values_of true rest)) ≡ whole = subst (λ cs. done ++ onto_first_group front cs ≡ whole) grown h in
+    subst (λ cs. done ++ cs ≡ whole) (onto_first-append front (p ∷ []) (component_values_of true rest)) told
 
 more_is : {A : Type 0} (f : A → TokenPart) (ps : List A) (from i : ℕ) (d : A) → from ≤ i → i < length ps
     → map f (slice_range ps from (i + 1)) ≡ map f (slice_range ps from i) ++ f (get_or ps i d) ∷ []
@@ -29,33 +29,33 @@ more_is f ps from i d low h = ap (map f) (slice_more ps from i d low h) ∙ map-
 -- a part after which no bracket is open ends a component
 pub end_step : {A : Type 0} (f : A → TokenPart) (done whole : List (List TokenPart)) (ps : List A) (from i : ℕ) (inside : Bool) (d : A) → from ≤ i → i < length ps
     → is_inside inside (f (get_or ps i d)) ≡ false
-    → done ++ onto_first_group (map f (slice_range ps from i)) (components_of inside (map f (drop i ps))) ≡ whole
-    → (done ++ map f (slice_range ps from (i + 1)) ∷ []) ++ onto_first_group (map f (slice_range ps (i + 1) (i + 1))) (components_of false (map f (drop (i + 1) ps))) ≡ whole
+    → done ++ onto_first_group (map f (slice_range ps from i)) (component_values_of inside (map f (drop i ps))) ≡ whole
+    → (done ++ map f (slice_range ps from (i + 1)) ∷ []) ++ onto_first_group (map f (slice_range ps (i + 1) (i + 1))) (component_values_of false (map f (drop (i + 1) ps))) ≡ whole
 end_step f done whole ps from i inside d low h closed before =
     let none : i + 1 - (i + 1) ≡ 0 = omega arith in
-    let told : done ++ onto_first_group (map f (slice_range ps from i)) (components_of inside (f (get_or ps i d) ∷ map f (drop (i + 1) ps))) ≡ whole =
-    subst (λ l. done ++ onto_first_group (map f (slice_range ps from i)) (components_of inside l) ≡ whole) (rest_is f ps i d h) before in
-    let after : (done ++ (map f (slice_range ps from i) ++ f (get_or ps i d) ∷ []) ∷ []) ++ onto_first_group [] (components_of false (map f (drop (i + 1) ps))) ≡ whole =
+    let told : done ++ onto_first_group (map f (slice_range ps from i)) (component_values_of inside (f (get_or ps i d) ∷ map f (drop (i + 1) ps))) ≡ whole =
+    subst (λ l. done ++ onto_first_group (map f (slice_range ps from i)) (component_values_of inside l) ≡ whole) (rest_is f ps i d h) before in
+    let after : (done ++ (map f (slice_range ps from i) ++ f (get_or ps i d) ∷ []) ∷ []) ++ onto_first_group [] (component_values_of false (map f (drop (i + 1) ps))) ≡ whole =
     at_end done whole (map f (slice_range ps from i)) inside (f (get_or ps i d)) (map f (drop (i + 1) ps)) closed told in
-    let whole_is : (done ++ map f (slice_range ps from (i + 1)) ∷ []) ++ onto_first_group [] (components_of false (map f (drop (i + 1) ps))) ≡ whole =
+    let whole_is : (done ++ map f (slice_range ps from (i + 1)) ∷ []) ++ onto_first_group [] (component_values_of false (map f (drop (i + 1) ps))) ≡ whole =
     rw (more_is f ps from i d low h) after in
-    subst (λ n. (done ++ map f (slice_range ps from (i + 1)) ∷ []) ++ onto_first_group (map f (take n (drop (i + 1) ps))) (components_of false (map f (drop (i + 1) ps))) ≡ whole) (sym none) whole_is
+    subst (λ n. (done ++ map f (slice_range ps from (i + 1)) ∷ []) ++ onto_first_group (map f (take n (drop (i + 1) ps))) (component_values_of false (map f (drop (i + 1) ps))) ≡ whole) (sym none) whole_is
 
 -- any other belongs to the component that is open
 pub within_step : {A : Type 0} (f : A → TokenPart) (done whole : List (List TokenPart)) (ps : List A) (from i : ℕ) (inside : Bool) (d : A) → from ≤ i → i < length ps
     → is_inside inside (f (get_or ps i d)) ≡ true
-    → done ++ onto_first_group (map f (slice_range ps from i)) (components_of inside (map f (drop i ps))) ≡ whole
-    → done ++ onto_first_group (map f (slice_range ps from (i + 1))) (components_of true (map f (drop (i + 1) ps))) ≡ whole
+    → done ++ onto_first_group (map f (slice_range ps from i)) (component_values_of inside (map f (drop i ps))) ≡ whole
+    → done ++ onto_first_group (map f (slice_range ps from (i + 1))) (component_values_of true (map f (drop (i + 1) ps))) ≡ whole
 within_step f done whole ps from i inside d low h open_ before =
-    let told : done ++ onto_first_group (map f (slice_range ps from i)) (components_of inside (f (get_or ps i d) ∷ map f (drop (i + 1) ps))) ≡ whole =
-    subst (λ l. done ++ onto_first_group (map f (slice_range ps from i)) (components_of inside l) ≡ whole) (rest_is f ps i d h) before in
+    let told : done ++ onto_first_group (map f (slice_range ps from i)) (component_values_of inside (f (get_or ps i d) ∷ map f (drop (i + 1) ps))) ≡ whole =
+    subst (λ l. done ++ onto_first_group (map f (slice_range ps from i)) (component_values_of inside l) ≡ whole) (rest_is f ps i d h) before in
     rw (more_is f ps from i d low h) (within done whole (map f (slice_range ps from i)) inside (f (get_or ps i d)) (map f (drop (i + 1) ps)) open_ told)
 
 -- what is open at the end is the last component
-pub open_end : (done whole : List (List TokenPart)) (front : List TokenPart) → done ++ onto_first_group front (components_of true []) ≡ whole → done ++ front ∷ [] ≡ whole
+pub open_end : (done whole : List (List TokenPart)) (front : List TokenPart) → done ++ onto_first_group front (component_values_of true []) ≡ whole → done ++ front ∷ [] ≡ whole
 open_end done whole front h = subst (λ c. done ++ c ∷ [] ≡ whole) (append-nil front) h
 
-pub closed_end : (done whole : List (List TokenPart)) (front : List TokenPart) → done ++ onto_first_group front (components_of false []) ≡ whole → done ≡ whole
+pub closed_end : (done whole : List (List TokenPart)) (front : List TokenPart) → done ++ onto_first_group front (component_values_of false []) ≡ whole → done ≡ whole
 closed_end done whole front h = sym (append-nil done) ∙ h
 
 -- ---- what fits

@@ -12,15 +12,16 @@ use Rattle.value_types.specs.declared.list_value.ListName.TheVariants as list
 use Rattle.value_types.specs.declared.shorthand.Shorthand.{Shorthand}
 use Rattle.value_types.specs.declared.shorthand.Shorthand.TheVariants as short
 use Rattle.value_types.proofs.PropertyLemmas.{find_passes, lowercase-name_of}
-use Rattle.shorthand_text.specs.KnownNames.{all_lists, all_shorthands, first_of, is_text_of, known_name, name_of_list, name_of_shorthand, text_of_name}
+use Rattle.shorthand_text.specs.Components.{first_some}
+use Rattle.shorthand_text.specs.KnownNames.{timing_lists, all_shorthands, is_text_of, known_name, name_of_list, name_of_shorthand, text_of_name}
 use Rattle.shorthand_text.specs.declared.known_name.KnownName.{KnownName}
 use Rattle.shorthand_text.specs.declared.known_name.KnownName.TheVariants as known
 
 -- the known name of these bytes, in lower case
 abbrev pub known_by : List ℕ → Option KnownName
 known_by bs =
-    first_of (option_map known.Property (find (λ q. bytes_eq bs (str_to_ascii_lowercase (name_of q))) all_properties))
-    (first_of (option_map known.List (find (λ n. bytes_eq bs (str_to_ascii_lowercase (name_of_list n))) all_lists))
+    first_some (option_map known.Property (find (λ q. bytes_eq bs (str_to_ascii_lowercase (name_of q))) all_properties))
+    (first_some (option_map known.List (find (λ n. bytes_eq bs (str_to_ascii_lowercase (name_of_list n))) timing_lists))
     (find (λ n. bytes_eq bs (str_to_ascii_lowercase (text_of_name n))) all_shorthands))
 
 pub known_by_lowercase : (text : List ℕ) → known_name text ≡ known_by (str_to_ascii_lowercase text)
@@ -111,7 +112,7 @@ found_in : (text : List ℕ) (p : Option PropertyId) (l : Option ListName) (s : 
     → ((q : PropertyId) → p ≡ Some q → is_text_of text (known.Property q) ≡ true)
     → ((m : ListName) → l ≡ Some m → is_text_of text (known.List m) ≡ true)
     → ((m : KnownName) → s ≡ Some m → is_text_of text m ≡ true)
-    → first_of (option_map known.Property p) (first_of (option_map known.List l) s) ≡ Some n → is_text_of text n ≡ true
+    → first_some (option_map known.Property p) (first_some (option_map known.List l) s) ≡ Some n → is_text_of text n ≡ true
 found_in text (Some q) l s n a b c h = let e : known.Property q ≡ n = cc in ap (is_text_of text) (sym e) ∙ a q refl
 found_in text None (Some m) s n a b c h = let e : known.List m ≡ n = cc in ap (is_text_of text) (sym e) ∙ b m refl
 found_in text None None s n a b c h = c n h
@@ -120,7 +121,7 @@ pub known_has_name : (text : List ℕ) (n : KnownName) → known_name text ≡ S
 unfolding known_name property_named
 known_has_name text n h =
     has_name text n
-    (found_in text (find (is_named text) all_properties) (find (λ m. str_eq_ignore_ascii_case text (name_of_list m)) all_lists) (find (is_text_of text) all_shorthands) n
+    (found_in text (find (is_named text) all_properties) (find (λ m. str_eq_ignore_ascii_case text (name_of_list m)) timing_lists) (find (is_text_of text) all_shorthands) n
     (λ q e. find_passes (is_named text) all_properties q e)
-    (λ m e. find_passes (λ k. str_eq_ignore_ascii_case text (name_of_list k)) all_lists m e)
+    (λ m e. find_passes (λ k. str_eq_ignore_ascii_case text (name_of_list k)) timing_lists m e)
     (λ m e. find_passes (is_text_of text) all_shorthands m e) h)

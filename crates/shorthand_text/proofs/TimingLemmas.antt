@@ -30,11 +30,11 @@ use Rattle.list_text.specs.Reading.{easing_within}
 use Rattle.list_text.proofs.ListLemmas.{cuts, easing_judges, name_judges}
 use Rattle.list_text.proofs.OptionLemmas.{bound, mapped}
 use Rattle.list_text.proofs.TimeLemmas.{count_judges}
-use Rattle.shorthand_text.specs.Components.{components_of, first_some, fitting, others}
+use Rattle.shorthand_text.specs.Components.{component_values_of, first_some, fitting, others}
 use Rattle.shorthand_text.specs.Longhands.{IsLonghand}
 use Rattle.shorthand_text.specs.Outcomes.{outcome_map}
 use Rattle.shorthand_text.specs.Sides.{initial_lists}
-use Rattle.shorthand_text.specs.TimingItems.{animation_from, animation_in, animation_item, animation_lists, animation_longhands, animation_within, count_in, direction_in, duration_of, easing_in, fill_in, is_nothing, lone_nothing, name_in, playing_longhands, property_of, state_in, time_in, timing_longhands, transition_from, transition_in, transition_item, transition_lists, transition_longhands, transition_within}
+use Rattle.shorthand_text.specs.TimingItems.{animation_of_values, animation_in, animation_item, animation_lists, animation_longhands, animation_within, count_in, direction_in, item_duration, easing_in, fill_in, is_nothing, lone_nothing, name_in, playing_longhands, property_of, state_in, time_in, timing_longhands, transition_of_values, transition_in, transition_item, transition_lists, transition_longhands, transition_within}
 use Rattle.shorthand_text.specs.declared.animation.AnimationItem.{AnimationItem}
 use Rattle.shorthand_text.specs.declared.longhand.Longhand.{Longhand}
 use Rattle.shorthand_text.specs.declared.longhand.Longhand.TheVariants as given
@@ -146,7 +146,7 @@ within_limit t h = let size : nat_le (unsigned_abs t.0) (10 ^ 15) ≡ true = h i
 delay_keeps : (t : Micros) → micros_within t ≡ true → IsDelay t
 delay_keeps t h = record { size = within_limit t h }
 
-duration_keeps : (o : Option Micros) (d : Micros) → duration_of o ≡ Some d → micros_within d ≡ true → IsDuration d
+duration_keeps : (o : Option Micros) (d : Micros) → item_duration o ≡ Some d → micros_within d ≡ true → IsDuration d
 duration_keeps o d found h =
     let n = mapped (λ k. micros (pos k)) (not_negative (unwrap_or o no_time).0) d found in
     let is : d.0 ≡ pos n.0 = ap (λ (t : Micros). t.0) (sym n.2) in
@@ -179,7 +179,7 @@ pub record IsTransitionItem (i : TransitionItem) : Type 0 where
   pub easing : IsEasing i.easing
 
 -- the parts of an item that passes keep their bounds
-transition_kept : (property : Option PropertyItem) (duration : Micros) (first : Option Micros) (c2 cs : List (List TokenPart)) → duration_of first ≡ Some duration
+transition_kept : (property : Option PropertyItem) (duration : Micros) (first : Option Micros) (c2 cs : List (List TokenPart)) → item_duration first ≡ Some duration
     → (micros_within duration && micros_within (unwrap_or (fitting time_in c2) no_time) && easing_within (unwrap_or (fitting easing_in cs) ease) ≡ true)
     → IsTransitionItem (record { property = property; duration = duration; delay = unwrap_or (fitting time_in c2) no_time; easing = unwrap_or (fitting easing_in cs) ease })
 transition_kept property duration first c2 cs found passes =
@@ -191,7 +191,7 @@ transition_kept property duration first c2 cs found passes =
           (and_second (micros_within duration && micros_within (unwrap_or (fitting time_in c2) no_time)) (easing_within (unwrap_or (fitting easing_in cs) ease)) passes);
     }
 
-transition_made : (cs : List (List TokenPart)) (i : TransitionItem) → transition_from cs ≡ Some i → transition_within i ≡ true → IsTransitionItem i
+transition_made : (cs : List (List TokenPart)) (i : TransitionItem) → transition_of_values cs ≡ Some i → transition_within i ≡ true → IsTransitionItem i
 transition_made cs i h passes =
     let c1 : List (List TokenPart) = others easing_in cs in
     let c2 : List (List TokenPart) = others time_in c1 in
@@ -201,14 +201,14 @@ transition_made cs i h passes =
       delay = unwrap_or (fitting time_in c2) no_time;
       easing = unwrap_or (fitting easing_in cs) ease;
     } in
-    let p = bound (property_of (others time_in c2)) (λ property. duration_of (fitting time_in c1) >>= λ duration. Some (made property duration)) i h in
-    let d = bound (duration_of (fitting time_in c1)) (λ duration. Some (made p.0 duration)) i p.2 in
+    let p = bound (property_of (others time_in c2)) (λ property. item_duration (fitting time_in c1) >>= λ duration. Some (made property duration)) i h in
+    let d = bound (item_duration (fitting time_in c1)) (λ duration. Some (made p.0 duration)) i p.2 in
     let is : made p.0 d.0 ≡ i = cc (d.2) in
     subst IsTransitionItem is (transition_kept p.0 d.0 (fitting time_in c1) c2 cs d.1 (subst (λ (x : TransitionItem). transition_within x ≡ true) (sym is) passes))
 
 transition_keeps : (g : List TokenPart) (i : TransitionItem) → transition_item g ≡ Some i → transition_within i ≡ true → IsTransitionItem i
 unfolding transition_item
-transition_keeps g i h passes = transition_made (components_of false g) i (unless_empty (length g == 0) (transition_from (components_of false g)) i h) passes
+transition_keeps g i h passes = transition_made (component_values_of false g) i (unless_empty (length g == 0) (transition_of_values (component_values_of false g)) i h) passes
 
 lone_at : (xs ys : List TransitionItem) (b : Bool) → cond b None (Some xs) ≡ Some ys → Some xs ≡ Some ys
 lone_at xs ys true h = absurd (cc)
@@ -265,7 +265,7 @@ pub record IsAnimationItem (i : AnimationItem) : Type 0 where
 
 -- the parts of an item that passes keep their bounds
 animation_kept : (name : Option (List ℕ)) (duration : Micros) (direction : Direction) (fill : Fill) (state : PlayState) (first : Option Micros)
-    (names c3 c4 c6 : List (List TokenPart)) → name_in names ≡ Some name → duration_of first ≡ Some duration
+    (names c3 c4 c6 : List (List TokenPart)) → name_in names ≡ Some name → item_duration first ≡ Some duration
     → (micros_within duration && micros_within (unwrap_or (fitting time_in c6) no_time) && easing_within (unwrap_or (fitting easing_in c3) ease) && count_within (unwrap_or (fitting count_in c4) once) ≡ true)
     → IsAnimationItem (record {
       name = name;
@@ -292,7 +292,7 @@ animation_kept name duration direction fill state first names c3 c4 c6 named fou
       count = or_initial_keeps IsCount count_within count_in once once_is count_keeps c4 (fitting count_in c4) refl (and_second (d && l && e) n passes);
     }
 
-animation_made : (cs : List (List TokenPart)) (i : AnimationItem) → animation_from cs ≡ Some i → animation_within i ≡ true → IsAnimationItem i
+animation_made : (cs : List (List TokenPart)) (i : AnimationItem) → animation_of_values cs ≡ Some i → animation_within i ≡ true → IsAnimationItem i
 animation_made cs i h passes =
     let c1 : List (List TokenPart) = others direction_in cs in
     let c2 : List (List TokenPart) = others fill_in c1 in
@@ -310,8 +310,8 @@ animation_made cs i h passes =
       fill = unwrap_or (fitting fill_in c1) Nothing;
       state = unwrap_or (fitting state_in c2) Running;
     } in
-    let p = bound (name_in (others time_in c6)) (λ name. duration_of (fitting time_in c5) >>= λ duration. Some (made name duration)) i h in
-    let d = bound (duration_of (fitting time_in c5)) (λ duration. Some (made p.0 duration)) i p.2 in
+    let p = bound (name_in (others time_in c6)) (λ name. item_duration (fitting time_in c5) >>= λ duration. Some (made name duration)) i h in
+    let d = bound (item_duration (fitting time_in c5)) (λ duration. Some (made p.0 duration)) i p.2 in
     let is : made p.0 d.0 ≡ i = cc (d.2) in
     subst IsAnimationItem is
     (animation_kept p.0 d.0 (unwrap_or (fitting direction_in cs) Normal) (unwrap_or (fitting fill_in c1) Nothing) (unwrap_or (fitting state_in c2) Running) (fitting time_in c5)
@@ -319,7 +319,7 @@ animation_made cs i h passes =
 
 animation_keeps : (g : List TokenPart) (i : AnimationItem) → animation_item g ≡ Some i → animation_within i ≡ true → IsAnimationItem i
 unfolding animation_item
-animation_keeps g i h passes = animation_made (components_of false g) i (unless_empty (length g == 0) (animation_from (components_of false g)) i h) passes
+animation_keeps g i h passes = animation_made (component_values_of false g) i (unless_empty (length g == 0) (animation_of_values (component_values_of false g)) i h) passes
 
 animations_valid : (items : List AnimationItem) → AreRead IsAnimationItem items → All IsLonghand (animation_longhands items)
 animations_valid items h =

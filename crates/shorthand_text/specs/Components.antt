@@ -4,10 +4,10 @@ use Rattle.token_parts.specs.Parts.{TokenPart}
 use Rattle.list_text.specs.ItemReading.{is_inside, onto_first_group}
 
 -- the components of the parts, where a bracket may be open: a function goes up to its bracket, any other part is one by itself
-abbrev pub components_of : Bool → List TokenPart → List (List TokenPart)
-components_of inside [] = (if inside then [] ∷ [] else [])
-components_of inside (p ∷ ps) =
-    (if is_inside inside p then onto_first_group (p ∷ []) (components_of (is_inside inside p) ps) else (p ∷ []) ∷ components_of (is_inside inside p) ps)
+abbrev pub component_values_of : Bool → List TokenPart → List (List TokenPart)
+component_values_of inside [] = (if inside then [] ∷ [] else [])
+component_values_of inside (p ∷ ps) =
+    (if is_inside inside p then onto_first_group (p ∷ []) (component_values_of (is_inside inside p) ps) else (p ∷ []) ∷ component_values_of (is_inside inside p) ps)
 
 -- the first, where there is one, else the other
 abbrev pub first_some : {T : Type 0} → Option T → Option T → Option T

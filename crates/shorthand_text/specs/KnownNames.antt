@@ -6,6 +6,7 @@ use Rattle.value_types.specs.declared.list_value.ListName.{ListName}
 use Rattle.value_types.specs.declared.list_value.ListName.TheVariants as list
 use Rattle.value_types.specs.declared.shorthand.Shorthand.{Shorthand}
 use Rattle.value_types.specs.declared.shorthand.Shorthand.TheVariants as short
+use Rattle.shorthand_text.specs.Components.{first_some}
 use Rattle.shorthand_text.specs.declared.known_name.KnownName.{KnownName}
 use Rattle.shorthand_text.specs.declared.known_name.KnownName.TheVariants as known
 
@@ -41,8 +42,8 @@ text_of_name known.Transition = codes "transition"
 text_of_name known.Animation = codes "animation"
 
 -- the timing lists, those of transitions first
-abbrev pub all_lists : List ListName
-all_lists =
+abbrev pub timing_lists : List ListName
+timing_lists =
     list.TransitionProperty ∷ list.TransitionDuration ∷ list.TransitionDelay ∷ list.TransitionEasing
     ∷ list.AnimationName ∷ list.AnimationDuration ∷ list.AnimationDelay ∷ list.AnimationEasing
     ∷ list.AnimationCount ∷ list.AnimationDirection ∷ list.AnimationFill ∷ list.AnimationPlayState ∷ []
@@ -57,14 +58,9 @@ all_shorthands =
 abbrev pub is_text_of : List ℕ → KnownName → Bool
 is_text_of text name = str_eq_ignore_ascii_case text (text_of_name name)
 
--- the first, else the other
-abbrev pub first_of : Option KnownName → Option KnownName → Option KnownName
-first_of (Some name) other = Some name
-first_of None other = other
-
 -- the property, else the timing list, else the shorthand of this name
 unfoldable pub known_name : List ℕ → Option KnownName
 known_name text =
-    first_of (option_map known.Property (property_named text))
-    (first_of (option_map known.List (find (λ n. str_eq_ignore_ascii_case text (name_of_list n)) all_lists))
+    first_some (option_map known.Property (property_named text))
+    (first_some (option_map known.List (find (λ n. str_eq_ignore_ascii_case text (name_of_list n)) timing_lists))
     (find (is_text_of text) all_shorthands))

@@ -15,7 +15,7 @@ use Rattle.value_types.specs.declared.shorthand.Shorthand.TheVariants as short
 use Rattle.value_text.specs.Reading.{or_unsupported, value_in}
 use Rattle.value_text.specs.Spelling.{cascade_keyword, declared_by}
 use Rattle.value_text.specs.declared.cascade.Keyword.{Keyword}
-use Rattle.shorthand_text.specs.KnownNames.{all_lists}
+use Rattle.shorthand_text.specs.KnownNames.{timing_lists}
 use Rattle.shorthand_text.specs.Outcomes.{all_given, outcome_map, outcome_then}
 use Rattle.shorthand_text.specs.declared.longhand.Longhand.{Longhand}
 use Rattle.shorthand_text.specs.declared.longhand.Longhand.TheVariants as given
@@ -33,7 +33,7 @@ initial_lists names = map (λ name. given.List name Initial) names
 
 -- `all` stands for the timing lists too
 abbrev pub lists_in : Shorthand → List ListName
-lists_in short.All = all_lists
+lists_in short.All = timing_lists
 lists_in _ = []
 
 -- a keyword of the cascade is given to each longhand, where each may take it

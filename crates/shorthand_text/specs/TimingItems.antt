@@ -27,7 +27,7 @@ use Rattle.list_text.specs.ItemReading.{count_of, count_within, each_of, groups_
 use Rattle.list_text.specs.Lists.{direction_words, fill_words, name_of_word, property_of_word, state_words}
 use Rattle.list_text.specs.Numbers.{clamped_nearest, not_negative}
 use Rattle.list_text.specs.Reading.{easing_of, easing_within}
-use Rattle.shorthand_text.specs.Components.{components_of, fitting, others}
+use Rattle.shorthand_text.specs.Components.{component_values_of, fitting, others}
 use Rattle.shorthand_text.specs.Outcomes.{outcome_map}
 use Rattle.shorthand_text.specs.Sides.{initial_lists}
 use Rattle.shorthand_text.specs.declared.animation.AnimationItem.{AnimationItem}
@@ -57,8 +57,8 @@ abbrev pub state_in : List TokenPart → Option PlayState
 state_in c = word_item (look_up state_words) c
 
 -- the first time is the duration, which is not negative
-abbrev pub duration_of : Option Micros → Option Micros
-duration_of t = option_map (λ n. micros (pos n)) (not_negative (unwrap_or t no_time).0)
+abbrev pub item_duration : Option Micros → Option Micros
+item_duration t = option_map (λ n. micros (pos n)) (not_negative (unwrap_or t no_time).0)
 
 -- what transitions, by the components that are nothing else: at most one word; None is `none`
 abbrev pub property_of : List (List TokenPart) → Option (Option PropertyItem)
@@ -76,7 +76,7 @@ name_in _ = None
 
 -- the item of this property, of these times and easing or the initial ones
 abbrev pub transition_with : Option PropertyItem → Option Micros → Option Micros → Option Easing → Option TransitionItem
-transition_with property first second easing = duration_of first >>= λ duration. Some (record {
+transition_with property first second easing = item_duration first >>= λ duration. Some (record {
   property = property;
   duration = duration;
   delay = unwrap_or second no_time;
@@ -85,19 +85,19 @@ transition_with property first second easing = duration_of first >>= λ duration
 
 -- the item of these components, in any order: the first that fits is the easing, the first time of the others the duration, the next the
 -- delay
-abbrev pub transition_from : List (List TokenPart) → Option TransitionItem
-transition_from cs =
+abbrev pub transition_of_values : List (List TokenPart) → Option TransitionItem
+transition_of_values cs =
     let c1 = others easing_in cs in
     let c2 = others time_in c1 in
     property_of (others time_in c2) >>= λ property. transition_with property (fitting time_in c1) (fitting time_in c2) (fitting easing_in cs)
 
 -- the item that the parts are, which are one at least
 unfoldable pub transition_item : List TokenPart → Option TransitionItem
-transition_item parts = (if length parts == 0 then None else transition_from (components_of false parts))
+transition_item parts = (if length parts == 0 then None else transition_of_values (component_values_of false parts))
 
 -- the item of this name, of these times, easing and count or the initial ones, and played so
 abbrev pub animation_with : Option (List ℕ) → Option Micros → Option Micros → Option Easing → Option Count → Option Direction → Option Fill → Option PlayState → Option AnimationItem
-animation_with name first second easing count direction fill state = duration_of first >>= λ duration. Some (record {
+animation_with name first second easing count direction fill state = item_duration first >>= λ duration. Some (record {
   name = name;
   duration = duration;
   delay = unwrap_or second no_time;
@@ -109,8 +109,8 @@ animation_with name first second easing count direction fill state = duration_of
 })
 
 -- the item of these components, in any order: each is the first of these that it fits and that is none yet
-abbrev pub animation_from : List (List TokenPart) → Option AnimationItem
-animation_from cs =
+abbrev pub animation_of_values : List (List TokenPart) → Option AnimationItem
+animation_of_values cs =
     let c1 = others direction_in cs in
     let c2 = others fill_in c1 in
     let c3 = others state_in c2 in
@@ -122,7 +122,7 @@ animation_from cs =
 
 -- the item that the parts are, which are one at least
 unfoldable pub animation_item : List TokenPart → Option AnimationItem
-animation_item parts = (if length parts == 0 then None else animation_from (components_of false parts))
+animation_item parts = (if length parts == 0 then None else animation_of_values (component_values_of false parts))
 
 -- its numbers are within their limits
 abbrev pub transition_within : TransitionItem → Bool

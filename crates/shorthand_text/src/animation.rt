@@ -2,7 +2,7 @@
 ghost use Rattle.std.specs.Prelude.{◌≡◌, ◌++◌, map, IfOk, OnOk};
 ghost use Rattle.token_parts.specs.Parts.{token_part};
 ghost use Rattle.shorthand_text.specs.Declaring.{Reads};
-ghost use Rattle.shorthand_text.specs.TimingItems.{animation_from, animation_in, animation_item, animation_longhands, animation_with, animation_within, name_in, playing_longhands, timing_longhands};
+ghost use Rattle.shorthand_text.specs.TimingItems.{animation_of_values, animation_in, animation_item, animation_longhands, animation_with, animation_within, name_in, playing_longhands, timing_longhands};
 
 use crate::components::{components, take_first};
 use crate::known_name::ANIMATION_LISTS;
@@ -62,7 +62,7 @@ fn animation_from(
     alloc: Global,
     mut components: Vec<&[Part]>,
 ) -> Result<Option<AnimationItem>, AllocError>
-    ensures { IfOk result (λ o. o ≡ animation_from (map (λ c. map token_part c.now) components.entry.items)) }
+    ensures { IfOk result (λ o. o ≡ animation_of_values (map (λ c. map token_part c.now) components.entry.items)) }
 {
     let direction = take_first(alloc, ListName::AnimationDirection, &mut components)?;
     let fill = take_first(alloc, ListName::AnimationFill, &mut components)?;

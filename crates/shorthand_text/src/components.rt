@@ -1,7 +1,7 @@
 //! The components of a value (CSS Syntax 3, "Component value"), and what is taken of them.
 ghost use Rattle.std.specs.Prelude.{◌≡◌, false, map, IfOk};
 ghost use Rattle.token_parts.specs.Parts.{token_part};
-ghost use Rattle.shorthand_text.specs.Components.{components_of, fitting, others};
+ghost use Rattle.shorthand_text.specs.Components.{component_values_of, fitting, others};
 
 use list_text::{Item, is_inside};
 use std::alloc::{AllocError, Global};
@@ -13,7 +13,7 @@ pub(crate) fn components<'a, 'b>(
     alloc: Global,
     parts: &'b [Part<'a>],
 ) -> Result<Vec<&'b [Part<'a>]>, AllocError>
-    ensures { IfOk result (λ v. map (λ c. map token_part c.now) v.items ≡ components_of false (map token_part parts.now)) }
+    ensures { IfOk result (λ v. map (λ c. map token_part c.now) v.items ≡ component_values_of false (map token_part parts.now)) }
 {
     let mut components = Vec::new(alloc);
     let mut from: usize = 0;

@@ -1,6 +1,9 @@
 //! Floor: values. Knows no element and no time.
 //!
 //! What a declaration of any known name declares: properties, timing lists, and their shorthands.
+//!
+//! `read_longhands(alloc, KnownName::Short(Shorthand::Margin), "1px 2px", tokens)` is the four margins, and
+//! `name_of(b"Margin")` is that name.
 #![tactic(auto)]
 
 mod animation;

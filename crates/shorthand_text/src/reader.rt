@@ -4,7 +4,7 @@ ghost use Rattle.std.specs.Str.{str_eq_ignore_ascii_case};
 ghost use Rattle.css_token.specs.TokenLists.{LiesWithin};
 ghost use Rattle.token_parts.specs.Parts.{token_part, token_parts_of};
 ghost use Rattle.shorthand_text.specs.Declaring.{Reads, declared_of};
-ghost use Rattle.shorthand_text.specs.KnownNames.{all_lists, all_shorthands, is_text_of, known_name, name_of_list};
+ghost use Rattle.shorthand_text.specs.KnownNames.{timing_lists, all_shorthands, is_text_of, known_name, name_of_list};
 ghost use Rattle.shorthand_text.specs.Longhands.{IsLonghand};
 
 use crate::animation::animation_lists;
@@ -34,7 +34,7 @@ pub fn name_of(text: &[u8]) -> Option<KnownName>
 }
 
 fn list_of(text: &[u8]) -> Option<ListName>
-    ensures { result ≡ find (λ n. str_eq_ignore_ascii_case text.now (name_of_list n)) all_lists }
+    ensures { result ≡ find (λ n. str_eq_ignore_ascii_case text.now (name_of_list n)) timing_lists }
 {
     ALL_LISTS.iter().copied().find(|name| text.eq_ignore_ascii_case(list_name(*name).as_bytes()))
 }

@@ -5,7 +5,7 @@ ghost use Rattle.token_parts.specs.Keywords.{is_keyword};
 ghost use Rattle.token_parts.specs.Parts.{token_part};
 ghost use Rattle.list_text.specs.ItemReading.{is_word};
 ghost use Rattle.shorthand_text.specs.Declaring.{Reads};
-ghost use Rattle.shorthand_text.specs.TimingItems.{duration_of, is_nothing, lone_nothing, property_of, transition_from, transition_in, transition_item, transition_longhands, transition_with, transition_within};
+ghost use Rattle.shorthand_text.specs.TimingItems.{item_duration, is_nothing, lone_nothing, property_of, transition_of_values, transition_in, transition_item, transition_longhands, transition_with, transition_within};
 
 use crate::components::{components, take_first};
 use crate::known_name::TRANSITION_LISTS;
@@ -57,7 +57,7 @@ fn transition_from(
     alloc: Global,
     mut components: Vec<&[Part]>,
 ) -> Result<Option<TransitionItem>, AllocError>
-    ensures { IfOk result (λ o. o ≡ transition_from (map (λ c. map token_part c.now) components.entry.items)) }
+    ensures { IfOk result (λ o. o ≡ transition_of_values (map (λ c. map token_part c.now) components.entry.items)) }
 {
     let easing = take_first(alloc, ListName::TransitionEasing, &mut components)?;
     let duration = take_first(alloc, ListName::TransitionDelay, &mut components)?;
@@ -86,7 +86,7 @@ fn transition_with(
 
 /// The duration, which isn't negative, by the first time of an item.
 pub(crate) fn duration_of(time: Option<Micros>) -> Option<Micros>
-    ensures { result ≡ duration_of time }
+    ensures { result ≡ item_duration time }
 {
     let time = time.unwrap_or(Micros(0));
     if time.0 < 0 {

@@ -3,8 +3,8 @@
 
 use crate::reading::{easing, list};
 use fix_num::{Fix, Micros};
-use token_parts::ValueFault;
 use timing_types::{Count, Direction, Easing, Fill, Items, Jump, PlayState};
+use token_parts::ValueFault;
 use value_types::{ListName, ListValue, PropertyId, PropertyItem, Shorthand};
 
 /// The only item.

@@ -3,7 +3,10 @@
 use crate::reading::declared;
 use fix_num::Fix;
 use token_parts::ValueFault;
-use value_types::{Declared, Display, PropertyId, Shorthand, Size, Unit, Value, ValueRange, Visibility, initial_value, is_inherited, keeps_percent, longhands, range_of};
+use value_types::{
+    Declared, Display, PropertyId, Shorthand, Size, Unit, Value, ValueRange, Visibility,
+    initial_value, is_inherited, keeps_percent, longhands, range_of,
+};
 
 /// A row: the property's name, whether it is inherited, its range and initial value, a text that is accepted with
 /// what it declares, and one that is refused.

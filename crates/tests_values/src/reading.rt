@@ -5,9 +5,9 @@ ghost use Rattle.value_types.specs.Validity.{IsDeclaredFor};
 
 use css_token::tokens;
 use list_text::{read_easing, read_list};
+use timing_types::Easing;
 use token_parts::ValueFault;
 use value_text::read_value;
-use timing_types::Easing;
 use value_types::{Declared, ListName, ListValue, PropertyId};
 
 /// What the text declares of the property.

@@ -10,22 +10,37 @@ use value_types::{Declared, ListName, ListValue, PropertyId, PropertyItem, Short
 
 // Each known name, and what it names.
 const NAMES: [(&str, KnownName); 43] = [
-    ("background-color", KnownName::Property(PropertyId::BackgroundColor)),
+    (
+        "background-color",
+        KnownName::Property(PropertyId::BackgroundColor),
+    ),
     ("bottom", KnownName::Property(PropertyId::Bottom)),
     ("color", KnownName::Property(PropertyId::Color)),
     ("display", KnownName::Property(PropertyId::Display)),
     ("font-size", KnownName::Property(PropertyId::FontSize)),
     ("height", KnownName::Property(PropertyId::Height)),
     ("left", KnownName::Property(PropertyId::Left)),
-    ("letter-spacing", KnownName::Property(PropertyId::LetterSpacing)),
-    ("margin-bottom", KnownName::Property(PropertyId::MarginBottom)),
+    (
+        "letter-spacing",
+        KnownName::Property(PropertyId::LetterSpacing),
+    ),
+    (
+        "margin-bottom",
+        KnownName::Property(PropertyId::MarginBottom),
+    ),
     ("margin-left", KnownName::Property(PropertyId::MarginLeft)),
     ("margin-right", KnownName::Property(PropertyId::MarginRight)),
     ("margin-top", KnownName::Property(PropertyId::MarginTop)),
     ("opacity", KnownName::Property(PropertyId::Opacity)),
-    ("padding-bottom", KnownName::Property(PropertyId::PaddingBottom)),
+    (
+        "padding-bottom",
+        KnownName::Property(PropertyId::PaddingBottom),
+    ),
     ("padding-left", KnownName::Property(PropertyId::PaddingLeft)),
-    ("padding-right", KnownName::Property(PropertyId::PaddingRight)),
+    (
+        "padding-right",
+        KnownName::Property(PropertyId::PaddingRight),
+    ),
     ("padding-top", KnownName::Property(PropertyId::PaddingTop)),
     ("right", KnownName::Property(PropertyId::Right)),
     ("rotate", KnownName::Property(PropertyId::Rotate)),
@@ -34,18 +49,48 @@ const NAMES: [(&str, KnownName); 43] = [
     ("visibility", KnownName::Property(PropertyId::Visibility)),
     ("width", KnownName::Property(PropertyId::Width)),
     ("z-index", KnownName::Property(PropertyId::ZIndex)),
-    ("transition-property", KnownName::List(ListName::TransitionProperty)),
-    ("transition-duration", KnownName::List(ListName::TransitionDuration)),
-    ("transition-delay", KnownName::List(ListName::TransitionDelay)),
-    ("transition-timing-function", KnownName::List(ListName::TransitionEasing)),
+    (
+        "transition-property",
+        KnownName::List(ListName::TransitionProperty),
+    ),
+    (
+        "transition-duration",
+        KnownName::List(ListName::TransitionDuration),
+    ),
+    (
+        "transition-delay",
+        KnownName::List(ListName::TransitionDelay),
+    ),
+    (
+        "transition-timing-function",
+        KnownName::List(ListName::TransitionEasing),
+    ),
     ("animation-name", KnownName::List(ListName::AnimationName)),
-    ("animation-duration", KnownName::List(ListName::AnimationDuration)),
+    (
+        "animation-duration",
+        KnownName::List(ListName::AnimationDuration),
+    ),
     ("animation-delay", KnownName::List(ListName::AnimationDelay)),
-    ("animation-timing-function", KnownName::List(ListName::AnimationEasing)),
-    ("animation-iteration-count", KnownName::List(ListName::AnimationCount)),
-    ("animation-direction", KnownName::List(ListName::AnimationDirection)),
-    ("animation-fill-mode", KnownName::List(ListName::AnimationFill)),
-    ("animation-play-state", KnownName::List(ListName::AnimationPlayState)),
+    (
+        "animation-timing-function",
+        KnownName::List(ListName::AnimationEasing),
+    ),
+    (
+        "animation-iteration-count",
+        KnownName::List(ListName::AnimationCount),
+    ),
+    (
+        "animation-direction",
+        KnownName::List(ListName::AnimationDirection),
+    ),
+    (
+        "animation-fill-mode",
+        KnownName::List(ListName::AnimationFill),
+    ),
+    (
+        "animation-play-state",
+        KnownName::List(ListName::AnimationPlayState),
+    ),
     ("all", KnownName::Short(Shorthand::All)),
     ("background", KnownName::Short(Shorthand::Background)),
     ("inset", KnownName::Short(Shorthand::Inset)),
@@ -62,7 +107,15 @@ fn names(rt: HostRuntime) {
         assert!(rt; name.text() == text);
     }
     assert!(rt; name_of(b"Margin-TOP") == Some(KnownName::Property(PropertyId::MarginTop)));
-    for text in ["", "margin-", "transitions", "transition-behavior", "font", "-webkit-transition", "all "] {
+    for text in [
+        "",
+        "margin-",
+        "transitions",
+        "transition-behavior",
+        "font",
+        "-webkit-transition",
+        "all ",
+    ] {
         assert!(rt; name_of(text.as_bytes()) == None);
     }
 }
@@ -112,7 +165,12 @@ fn gives_sides(rt: &HostRuntime, s: Shorthand, text: &str, sides: [Declared; 4])
             PropertyId::PaddingRight,
             PropertyId::PaddingTop,
         ],
-        _ => [PropertyId::Bottom, PropertyId::Left, PropertyId::Right, PropertyId::Top],
+        _ => [
+            PropertyId::Bottom,
+            PropertyId::Left,
+            PropertyId::Right,
+            PropertyId::Top,
+        ],
     };
     list.len() == 4
         && is_given(list.get(0), ps[0], sides[0])
@@ -141,11 +199,23 @@ fn sides(rt: HostRuntime) {
         (Shorthand::Margin, "1px", [px, px, px, px]),
         (Shorthand::Margin, "1px 2.5em", [px, em, em, px]),
         (Shorthand::Margin, "1px 2.5em -3%", [percent, em, em, px]),
-        (Shorthand::Margin, "1px 2.5em -3% 4rem", [percent, rem, em, px]),
+        (
+            Shorthand::Margin,
+            "1px 2.5em -3% 4rem",
+            [percent, rem, em, px],
+        ),
         (Shorthand::Margin, " AUTO/**/1PX ", [auto, px, px, auto]),
-        (Shorthand::Margin, "Initial", [initial, initial, initial, initial]),
+        (
+            Shorthand::Margin,
+            "Initial",
+            [initial, initial, initial, initial],
+        ),
         (Shorthand::Padding, "0 1px", [zero, px, px, zero]),
-        (Shorthand::Padding, "unset", [initial, initial, initial, initial]),
+        (
+            Shorthand::Padding,
+            "unset",
+            [initial, initial, initial, initial],
+        ),
         (Shorthand::Inset, "auto 1px 0", [zero, px, px, auto]),
         (Shorthand::Inset, "0 1px auto 4rem", [auto, rem, px, zero]),
     ] {
@@ -196,7 +266,11 @@ fn gives_all(rt: &HostRuntime, text: &str, inherited: Declared) -> bool {
         return false;
     };
     for (i, p) in PropertyId::ALL.iter().enumerate() {
-        let wanted = if INHERITED.contains(p) { inherited } else { Declared::Initial };
+        let wanted = if INHERITED.contains(p) {
+            inherited
+        } else {
+            Declared::Initial
+        };
         if !is_given(list.get(i), *p, wanted) {
             return false;
         }
@@ -542,7 +616,11 @@ const ANIMATIONS: [Animation; 9] = [
         delays: &[ZERO, ZERO, ZERO],
         easings: &[EASE, EASE, EASE],
         counts: &[ONCE, ONCE, Count::Times(Fix(0))],
-        directions: &[Direction::Normal, Direction::AlternateReverse, Direction::Normal],
+        directions: &[
+            Direction::Normal,
+            Direction::AlternateReverse,
+            Direction::Normal,
+        ],
         fills: &[Fill::Nothing, Fill::Nothing, Fill::Nothing],
         states: &[PlayState::Running, PlayState::Running, PlayState::Running],
     },
@@ -612,7 +690,12 @@ fn animations(rt: HostRuntime) {
 }
 
 /// Whether the lists from one number to the next are initial, and no others are given.
-fn gives_initial(rt: &HostRuntime, name: KnownName, text: &str, lists: &[(&str, KnownName)]) -> bool {
+fn gives_initial(
+    rt: &HostRuntime,
+    name: KnownName,
+    text: &str,
+    lists: &[(&str, KnownName)],
+) -> bool {
     let Ok(list) = longhands(rt, name, text) else {
         return false;
     };
@@ -666,9 +749,21 @@ fn list_faults(rt: HostRuntime) {
         (transition, "1s -1000000001s", bound),
         (transition, "steps(1000001)", bound),
         (transition, "cubic-bezier(0, 11, 0, 0)", bound),
-        (transition, "a,a,a,a,a,a,a,a,a,a,a,a,a,a,a,a,a,a,a,a,a,a,a,a,a,a,a,a,a,a,a,a,a", items),
-        (transition, "a,a,a,a,a,a,a,a,a,a,a,a,a,a,a,a,a,a,a,a,a,a,a,a,a,a,a,a,a,a,a,a,none", unsupported),
-        (transition, "a,a,a,a,a,a,a,a,a,a,a,a,a,a,a,a,a,a,a,a,a,a,a,a,a,a,a,a,a,a,a,a,1000000001s", items),
+        (
+            transition,
+            "a,a,a,a,a,a,a,a,a,a,a,a,a,a,a,a,a,a,a,a,a,a,a,a,a,a,a,a,a,a,a,a,a",
+            items,
+        ),
+        (
+            transition,
+            "a,a,a,a,a,a,a,a,a,a,a,a,a,a,a,a,a,a,a,a,a,a,a,a,a,a,a,a,a,a,a,a,none",
+            unsupported,
+        ),
+        (
+            transition,
+            "a,a,a,a,a,a,a,a,a,a,a,a,a,a,a,a,a,a,a,a,a,a,a,a,a,a,a,a,a,a,a,a,1000000001s",
+            items,
+        ),
         (animation, "", unsupported),
         (animation, "a b", unsupported),
         (animation, "none none none", unsupported),
@@ -681,7 +776,11 @@ fn list_faults(rt: HostRuntime) {
         (animation, "'a'", unsupported),
         (animation, "1000001", bound),
         (animation, "1000000001s", bound),
-        (animation, "a,a,a,a,a,a,a,a,a,a,a,a,a,a,a,a,a,a,a,a,a,a,a,a,a,a,a,a,a,a,a,a,a", items),
+        (
+            animation,
+            "a,a,a,a,a,a,a,a,a,a,a,a,a,a,a,a,a,a,a,a,a,a,a,a,a,a,a,a,a,a,a,a,a",
+            items,
+        ),
         (animation, "1 2, 1000001", unsupported),
     ] {
         assert!(rt; fault(&rt, name, text) == Some(wanted));
