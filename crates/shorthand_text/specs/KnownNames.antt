@@ -1,5 +1,5 @@
 -- The names that a declaration may have: properties, timing lists, and the shorthands of either.
-use Rattle.std.specs.Prelude.{ℕ, Bool, List, [], ◌∷◌, codes, find, Option, None, Some, option_map}
+use Rattle.std.specs.Prelude.{ℕ, Bool, List, [], ◌∷◌, codes, find, Option, option_map}
 use Rattle.std.specs.Str.{str_eq_ignore_ascii_case}
 use Rattle.value_types.specs.Properties.{name_of, property_named}
 use Rattle.value_types.specs.declared.list_value.ListName.{ListName}
