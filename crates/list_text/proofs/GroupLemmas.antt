@@ -5,11 +5,11 @@ use Rattle.std.proofs.lemmas.List.{drop_more, get_or-drop, map-append, take_more
 use Rattle.token_parts.specs.Parts.{TokenPart}
 use Rattle.list_text.specs.ItemReading.{groups_of, is_inside, onto_first_group, parts_items}
 
-onto_first-nil : {A : Type 0} (xss : List (List A)) → onto_first_group [] xss ≡ xss
+pub onto_first-nil : {A : Type 0} (xss : List (List A)) → onto_first_group [] xss ≡ xss
 onto_first-nil [] = refl
 onto_first-nil (xs ∷ xss) = refl
 
-onto_first-append : {A : Type 0} (xs ys : List A) (xss : List (List A)) → onto_first_group xs (onto_first_group ys xss) ≡ onto_first_group (xs ++ ys) xss
+pub onto_first-append : {A : Type 0} (xs ys : List A) (xss : List (List A)) → onto_first_group xs (onto_first_group ys xss) ≡ onto_first_group (xs ++ ys) xss
 onto_first-append xs ys [] = refl
 onto_first-append xs ys (zs ∷ xss) = ap (λ l. l ∷ xss) (sym (append_assoc xs ys zs))
 
@@ -28,10 +28,10 @@ at_other done whole front inside p rest e h =
     let told : done ++ onto_first_group front (onto_first_group (p ∷ []) (groups_of (is_inside inside p) rest)) ≡ whole = subst (λ gs. done ++ onto_first_group front gs ≡ whole) grown h in
     subst (λ gs. done ++ gs ≡ whole) (onto_first-append front (p ∷ []) (groups_of (is_inside inside p) rest)) told
 
-rest_is : {A : Type 0} (f : A → TokenPart) (ps : List A) (i : ℕ) (d : A) → i < length ps → map f (drop i ps) ≡ f (get_or ps i d) ∷ map f (drop (i + 1) ps)
+pub rest_is : {A : Type 0} (f : A → TokenPart) (ps : List A) (i : ℕ) (d : A) → i < length ps → map f (drop i ps) ≡ f (get_or ps i d) ∷ map f (drop (i + 1) ps)
 rest_is f ps i d h = ap (map f) (drop_more ps i d h)
 
-slice_more : {A : Type 0} (ps : List A) (from i : ℕ) (d : A) → from ≤ i → i < length ps → slice_range ps from (i + 1) ≡ slice_range ps from i ++ get_or ps i d ∷ []
+pub slice_more : {A : Type 0} (ps : List A) (from i : ℕ) (d : A) → from ≤ i → i < length ps → slice_range ps from (i + 1) ≡ slice_range ps from i ++ get_or ps i d ∷ []
 slice_more ps from i d low h =
     let size = length-drop from ps in
     let next : i + 1 - from ≡ i - from + 1 = omega arith in

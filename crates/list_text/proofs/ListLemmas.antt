@@ -51,7 +51,7 @@ is_comma : (inside : Bool) (p : TokenPart) → parts_items inside p ≡ true →
 is_comma false Comma h = refl
 is_comma _ _ h = absurd (cc)
 
-cuts : (inside : Bool) (parts : List TokenPart) → Cuts parts (groups_of inside parts)
+pub cuts : (inside : Bool) (parts : List TokenPart) → Cuts parts (groups_of inside parts)
 cuts inside [] = record { first = []; rest = []; are = refl; same = refl }
 cuts inside (p ∷ ps) = cuts_at (parts_items inside p) inside p ps refl (is_comma inside p) (cuts false ps) (cuts (is_inside inside p) ps)
 

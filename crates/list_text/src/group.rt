@@ -37,7 +37,7 @@ fn parts_items(inside: bool, part: &Part) -> bool
 }
 
 /// Whether a bracket is open after the part.
-fn is_inside(inside: bool, part: &Part) -> bool
+pub fn is_inside(inside: bool, part: &Part) -> bool
     ensures { result ≡ is_inside inside (token_part part.now) }
 {
     match part {

@@ -24,12 +24,14 @@ const LONGEST: i64 = MAX_TIME as i64;
 const MOST: i64 = MAX_NUMBER as i64;
 
 /// What stands between the commas of a list.
-pub(crate) trait Item: Drop + Sized {
+pub trait Item: Drop + Sized {
     /// The item of the list that the parts spell, with its numbers clamped.
     ghost item_of: { ListName → List TokenPart → Option Self };
 
     ghost within: { Self → Bool };
 
+    /// The item of the list that the parts spell, where its numbers may be just past their limits; `None` where they
+    /// spell none.
     fn read(alloc: Global, name: ListName, parts: &[Part]) -> Result<Option<Self>, AllocError>
         ensures { IfOk result (λ o. o ≡ item_of name (map token_part parts.now)) };
 

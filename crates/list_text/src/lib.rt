@@ -11,5 +11,7 @@ mod list;
 mod number;
 
 pub use easing::read_easing;
+pub use group::is_inside;
+pub use item::Item;
 pub use laws::{easing_as_spelled, list_as_spelled, one_easing, one_list};
-pub use list::read_list;
+pub use list::{found_items, is_initial, items_within, list_of_parts, read_list};

@@ -4,7 +4,7 @@ ghost use Rattle.std.specs.List.{list_all};
 ghost use Rattle.css_token.specs.TokenLists.{LiesWithin};
 ghost use Rattle.token_parts.specs.Keywords.{is_keyword};
 ghost use Rattle.token_parts.specs.Parts.{token_parts_of, token_part};
-ghost use Rattle.list_text.specs.ItemReading.{Gives, each_of, has_sign, is_initial, is_word, items_of, list_of, micros_of, micros_within, properties_of, result_map, list_value_of};
+ghost use Rattle.list_text.specs.ItemReading.{Gives, each_of, groups_of, has_sign, is_initial, is_word, items_of, items_within, list_of, micros_of, micros_within, properties_of, result_map, list_value_of};
 ghost use Rattle.list_text.specs.Lists.{IsListAnswer};
 ghost use Rattle.list_text.specs.Numbers.{clamped_nearest};
 
@@ -33,10 +33,11 @@ pub fn read_list(
     let Ok(parts) = parts(alloc, text.as_bytes(), tokens) else {
         return Err(ValueFault::NoMemory);
     };
-    list_of(alloc, name, parts.as_slice())
+    list_of_parts(alloc, name, parts.as_slice())
 }
 
-fn list_of(alloc: Global, name: ListName, parts: &[Part]) -> Result<ListValue, ValueFault>
+/// As `read_list`, from the parts.
+pub fn list_of_parts(alloc: Global, name: ListName, parts: &[Part]) -> Result<ListValue, ValueFault>
     ensures { Gives (λ v. v) result (list_of name (map token_part parts.now)) }
 {
     if is_initial(parts) {
@@ -45,7 +46,8 @@ fn list_of(alloc: Global, name: ListName, parts: &[Part]) -> Result<ListValue, V
     value_of(alloc, name, parts)
 }
 
-fn is_initial(parts: &[Part]) -> bool
+/// Whether the parts are a keyword that stands for the initial value of every list: `initial` or `unset`.
+pub fn is_initial(parts: &[Part]) -> bool
     ensures { result ≡ is_initial (map token_part parts.now) }
 {
     match parts {
@@ -103,12 +105,29 @@ fn is_none(parts: &[Part]) -> bool
 fn items_of<T: Item>(alloc: Global, name: ListName, parts: &[Part]) -> Result<Items<T>, ValueFault>
     ensures { Gives (λ v. v) result (items_of (T.item_of name) T.within (map token_part parts.now)) }
 {
-    let Ok(groups) = groups(alloc, parts) else {
-        return Err(ValueFault::NoMemory);
-    };
-    let Ok(found) = each_of(alloc, name, groups.as_slice()) else {
-        return Err(ValueFault::NoMemory);
-    };
+    match found_items(alloc, name, parts) {
+        Ok(found) => items_within(found),
+        Err(_) => Err(ValueFault::NoMemory),
+    }
+}
+
+/// The items that stand between commas, however many and however large; `None` where something else does.
+pub fn found_items<T: Item>(
+    alloc: Global,
+    name: ListName,
+    parts: &[Part],
+) -> Result<Option<Vec<T>>, AllocError>
+    ensures { IfOk result (λ o. option_map (λ v. v.items) o ≡ each_of (T.item_of name) (groups_of false (map token_part parts.now))) }
+{
+    let groups = groups(alloc, parts)?;
+    each_of(alloc, name, groups.as_slice())
+}
+
+/// The items as a list. `Unsupported`: there are none. `BoundItems`: there are more than 32. `Bound`: a number passes
+/// its limit. In this order.
+pub fn items_within<T: Item>(found: Option<Vec<T>>) -> Result<Items<T>, ValueFault>
+    ensures { result ≡ items_within T.within (option_map (λ v. v.items) found) }
+{
     let Some(items) = found else {
         return Err(ValueFault::Unsupported);
     };

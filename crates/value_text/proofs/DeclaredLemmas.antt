@@ -226,7 +226,7 @@ value_declared p k parts d t (spelling.absent word h) = t
 value_declared p k parts d t (spelling.visibility word v h) = t
 value_declared p k parts d t (spelling.display word v h) = t
 
-keyword_declared : (p : PropertyId) (b : Bool) (k : Keyword) (d : Declared) → is_inherited p ≡ b → declared_by b k ≡ Some d → IsDeclaredFor p d
+pub keyword_declared : (p : PropertyId) (b : Bool) (k : Keyword) (d : Declared) → is_inherited p ≡ b → declared_by b k ≡ Some d → IsDeclaredFor p d
 keyword_declared p b cascade.Initial d e h = let same : declared.Initial ≡ d = cc in subst (IsDeclaredFor p) same tt
 keyword_declared p true cascade.Inherit d e h = let same : declared.Inherit ≡ d = cc in subst (IsDeclaredFor p) same e
 keyword_declared p false cascade.Inherit d e h = absurd (cc)

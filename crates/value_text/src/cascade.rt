@@ -7,16 +7,16 @@ ghost use Rattle.value_text.specs.Spelling.{cascade_keyword, cascade_words, decl
 use token_parts::{Part, look_up};
 use value_types::Declared;
 
-/// A keyword of the cascade, as it is written.
+/// A keyword of the cascade, as it is written (CSS Cascade 5, "Explicit Defaulting").
 #[derive(Clone, Copy)]
-pub(crate) enum Keyword {
+pub enum Keyword {
     Initial,
     Inherit,
     Unset,
 }
 
-/// The keyword of the cascade that the parts are.
-pub(crate) fn cascade_keyword(parts: &[Part]) -> Option<Keyword>
+/// The keyword of the cascade that the parts are; `None` where they are none.
+pub fn cascade_keyword(parts: &[Part]) -> Option<Keyword>
     ensures { result ≡ cascade_keyword (map token_part parts.now) }
 {
     match parts {
@@ -38,8 +38,8 @@ fn keyword_named(word: &[u8]) -> Option<Keyword>
     )
 }
 
-/// What the keyword declares of a property.
-pub(crate) fn declared_by(inherited: bool, keyword: Keyword) -> Option<Declared>
+/// What the keyword declares of a property that is inherited or isn't; `None`: such a property doesn't take it.
+pub fn declared_by(inherited: bool, keyword: Keyword) -> Option<Declared>
     ensures { result ≡ declared_by inherited keyword }
 {
     match keyword {

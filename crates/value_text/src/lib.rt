@@ -11,5 +11,6 @@ mod number;
 mod reader;
 mod size;
 
+pub use cascade::{Keyword, cascade_keyword, declared_by};
 pub use laws::{one_value, reading_is_exact, spelled_is_declared};
-pub use reader::read_value;
+pub use reader::{declared_of_parts, read_value, value_of_parts};

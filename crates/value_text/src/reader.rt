@@ -30,21 +30,24 @@ pub fn read_value(
     let Ok(parts) = parts(alloc, text.as_bytes(), tokens) else {
         return Err(ValueFault::NoMemory);
     };
-    read_parts(p, parts.as_slice())
+    declared_of_parts(p, parts.as_slice())
 }
 
+/// As `read_value`, from the parts.
 #[tactic(auto, unfolding(crate::specs::Reading::declared_reading))]
-fn read_parts(p: PropertyId, parts: &[Part]) -> Result<Declared, ValueFault>
+pub fn declared_of_parts(p: PropertyId, parts: &[Part]) -> Result<Declared, ValueFault>
     ensures { result ≡ declared_reading p (map token_part parts.now) }
 {
     match cascade_keyword(parts) {
         Some(keyword) => declared_by(is_inherited(p), keyword).ok_or(ValueFault::Unsupported),
-        None => value(p, parts),
+        None => value_of_parts(p, parts),
     }
 }
 
+/// What the parts declare of the property, where they are no keyword of the cascade. `Unsupported`: no value of it has
+/// that spelling. `Bound`: a number in it passes its limit.
 #[tactic(auto, unfolding(crate::specs::Reading::value_in))]
-fn value(p: PropertyId, parts: &[Part]) -> Result<Declared, ValueFault>
+pub fn value_of_parts(p: PropertyId, parts: &[Part]) -> Result<Declared, ValueFault>
     ensures { result ≡ value_in p (map token_part parts.now) }
 {
     match kind_at(p, parts) {

@@ -7,4 +7,4 @@ use Rattle.list_text.proofs.list.read_list.Goals as goal
 pub returns-clause-answer : goal.returns-clause-answer
 returns-clause-answer c =
     let same : map token_part c.as_slice.result.now ≡ token_parts_of c.args.text.now c.args.tokens.now = cc (c.in-Ok.ensures) in
-    list_answer c.args.name _ c.list_of.result (subst (λ l. Gives (λ v. v) c.list_of.result (list_of c.args.name l)) same c.list_of.ensures)
+    list_answer c.args.name _ c.list_of_parts.result (subst (λ l. Gives (λ v. v) c.list_of_parts.result (list_of c.args.name l)) same c.list_of_parts.ensures)

@@ -1,0 +1,10 @@
+pub mod ScanLemmas
+pub mod Within
+pub mod BlockLemmas
+pub mod FaultLemmas
+pub mod OffsetLemmas
+pub mod FrameLemmas
+pub mod FrameOrder
+pub mod PutFrames
+pub mod KeyframesLemmas
+pub mod SheetLemmas

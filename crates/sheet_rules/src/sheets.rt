@@ -1,0 +1,76 @@
+//! The sheets of a document.
+ghost use Rattle.std.specs.Prelude.{◌≡◌, ◌≤◌, ◌-◌, length, None, replicate, set, slice_index_or, IfOk, option_copied};
+ghost use Rattle.sheet_rules.specs.Sheets.{no_sheets, sheet_at_place};
+
+use crate::sheet::Sheet;
+use std::alloc::AllocError;
+use std::marker::Model;
+
+/// The sheets of a document, at 16 places of which a later one wins. Contracts see them as their list.
+#[derive(Drop)]
+pub struct Sheets {
+    places: [Option<Sheet>; 16],
+}
+
+impl Model for Sheets {
+    ghost use Rattle.std.specs.Prelude.{◌≡◌, List, Option, length};
+    ghost use Rattle.sheet_rules.specs.Rules.{SheetRules};
+
+    ghost Value = { List (Option SheetRules) };
+
+    ghost view = { λ s. s.places };
+
+    ghost invariant = { λ s. length s.places ≡ 16 };
+}
+
+impl Sheets {
+    /// No sheet at any place.
+    pub fn empty() -> Sheets
+        ensures { result ≡ no_sheets }
+    {
+        Sheets {
+            places: [
+                None, None, None, None, None, None, None, None, None, None, None, None, None, None,
+                None, None,
+            ],
+        }
+    }
+
+    /// Puts a sheet, or none, at place `k` from 1. Takes no memory.
+    pub fn put(&mut self, k: u32, sheet: Option<Sheet>)
+        requires low { 1 ≤ k }
+        requires high { k ≤ 16 }
+        ensures { self.new ≡ set self.old (k - 1) sheet }
+    {
+        self.places[k as usize - 1] = sheet;
+    }
+
+    /// The sheet at place `k` from 1; `None` where none is there.
+    pub fn get(&self, k: u32) -> Option<&Sheet>
+        requires low { 1 ≤ k }
+        requires high { k ≤ 16 }
+        ensures { option_copied result ≡ sheet_at_place self.now k }
+    {
+        self.places[k as usize - 1].as_ref()
+    }
+
+    /// The same sheets, which are shared. Takes no memory: it fails only where a sheet has 2^63 copies already.
+    pub fn copy(&self) -> Result<Sheets, AllocError>
+        ensures { IfOk result (λ sheets. sheets ≡ self.now) }
+    {
+        let mut copies = Sheets::empty();
+        for place in 0..16u32 {
+            copies.put(place + 1, copy_of(self.get(place + 1))?);
+        }
+        Ok(copies)
+    }
+}
+
+fn copy_of(sheet: Option<&Sheet>) -> Result<Option<Sheet>, AllocError>
+    ensures { IfOk result (λ copy. copy ≡ option_copied sheet.entry) }
+{
+    match sheet {
+        None => Ok(None),
+        Some(sheet) => Ok(Some(sheet.copy()?)),
+    }
+}
