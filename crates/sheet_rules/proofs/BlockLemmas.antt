@@ -4,7 +4,7 @@ use Rattle.std.specs.Prelude.{None, Some, Ok, Err}
 use Rattle.std.proofs.lemmas.Bool.{cases_lt}
 use Rattle.css_token.specs.declared.token.Token.{Token}
 use Rattle.sheet_rules.specs.declared.block_kind.BlockKind.{BlockKind}
-use Rattle.sheet_rules.specs.declared.declaration.DeclarationParts.{DeclarationParts}
+use Rattle.sheet_types.specs.declared.declaration.DeclarationParts.{DeclarationParts}
 use Rattle.sheet_rules.specs.declared.fault.BoundName.TheVariants as bound
 use Rattle.sheet_rules.specs.declared.fault.CssFault.{CssFault}
 use Rattle.sheet_rules.specs.declared.fault.CssFault.TheVariants.{Bound}

@@ -9,7 +9,8 @@ use Rattle.sheet_rules.specs.declared.fault.BoundName.TheVariants as bound
 use Rattle.sheet_rules.specs.declared.fault.CssFault.{CssFault}
 use Rattle.sheet_rules.specs.declared.fault.CssFault.TheVariants.{Bound}
 use Rattle.sheet_rules.specs.Faults.{◌>>=◌}
-use Rattle.sheet_rules.specs.Rules.{SheetRules, first_of, item_at, sheet_at, whole_or}
+use Rattle.sheet_types.specs.Sheets.{SheetRules}
+use Rattle.sheet_rules.specs.Rules.{first_of, item_at, sheet_at, whole_or}
 use Rattle.sheet_rules.specs.Scanning.{after_spaces}
 use Rattle.sheet_rules.proofs.Within.{Lie}
 

@@ -8,7 +8,7 @@ use Rattle.css_token.specs.declared.token.Token.{Token}
 use Rattle.shorthand_text.specs.KnownNames.{known_name}
 use Rattle.sheet_rules.specs.declared.block_kind.BlockKind.{BlockKind}
 use Rattle.sheet_rules.specs.declared.block_kind.BlockKind.TheVariants.{Attribute, Style, Keyframe}
-use Rattle.sheet_rules.specs.declared.declaration.DeclarationParts.{DeclarationParts}
+use Rattle.sheet_types.specs.declared.declaration.DeclarationParts.{DeclarationParts}
 use Rattle.sheet_rules.specs.declared.fault.BoundName.TheVariants as bound
 use Rattle.sheet_rules.specs.declared.fault.CssFault.{CssFault}
 use Rattle.sheet_rules.specs.declared.fault.CssFault.TheVariants.{BadToken, Bound}

@@ -22,7 +22,7 @@ use Rattle.shorthand_text.specs.declared.known_name.KnownName.TheVariants as kno
 use Rattle.shorthand_text.specs.declared.longhand.Longhand.{Longhand}
 use Rattle.sheet_rules.specs.declared.block_kind.BlockKind.{BlockKind}
 use Rattle.sheet_rules.specs.declared.block_kind.BlockKind.TheVariants.{Attribute, Style, Keyframe}
-use Rattle.sheet_rules.specs.declared.declaration.DeclarationParts.{DeclarationParts}
+use Rattle.sheet_types.specs.declared.declaration.DeclarationParts.{DeclarationParts}
 use Rattle.sheet_rules.specs.declared.fault.BoundName.TheVariants as bound
 use Rattle.sheet_rules.specs.declared.fault.CssFault.{CssFault}
 use Rattle.sheet_rules.specs.declared.fault.CssFault.TheVariants.{BadToken, UnsupportedValue, Bound, NoMemory}

@@ -18,7 +18,7 @@ use Rattle.value_types.specs.declared.list_value.ListValue.TheVariants.{Initial,
 use Rattle.value_types.specs.declared.property.PropertyId.TheVariants as property
 use Rattle.shorthand_text.specs.declared.longhand.Longhand.{Longhand}
 use Rattle.shorthand_text.specs.declared.longhand.Longhand.TheVariants as given
-use Rattle.sheet_rules.specs.declared.declaration.DeclarationParts.{DeclarationParts}
+use Rattle.sheet_types.specs.declared.declaration.DeclarationParts.{DeclarationParts}
 
 -- ---- offsets
 

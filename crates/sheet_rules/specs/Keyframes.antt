@@ -11,7 +11,7 @@ use Rattle.sheet_rules.specs.declared.block_kind.BlockKind.TheVariants.{Keyframe
 use Rattle.sheet_rules.specs.declared.fault.BoundName.TheVariants as bound
 use Rattle.sheet_rules.specs.declared.fault.CssFault.{CssFault}
 use Rattle.sheet_rules.specs.declared.fault.CssFault.TheVariants.{BadToken, UnsupportedRule, Bound}
-use Rattle.sheet_rules.specs.declared.rule.KeyframesRule.{KeyframesRule}
+use Rattle.sheet_types.specs.declared.rule.KeyframesRule.{KeyframesRule}
 use Rattle.sheet_rules.specs.Blocks.{block_at}
 use Rattle.sheet_rules.specs.Declarations.{is_ident, solid}
 use Rattle.sheet_rules.specs.Faults.{◌>>=◌}

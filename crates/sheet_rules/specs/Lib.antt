@@ -5,4 +5,3 @@ pub mod Blocks
 pub mod Frames
 pub mod Keyframes
 pub mod Rules
-pub mod Sheets

@@ -14,12 +14,13 @@ use Rattle.selectors_mini.specs.Reading.{selectors_of}
 use Rattle.selectors_mini.specs.declared.reading.SelectorFault.{SelectorFault}
 use Rattle.selectors_mini.specs.declared.reading.SelectorFault.TheVariants as selector
 use Rattle.sheet_rules.specs.declared.block_kind.BlockKind.TheVariants.{Attribute, Style}
-use Rattle.sheet_rules.specs.declared.declaration.DeclarationParts.{DeclarationParts}
+use Rattle.sheet_types.specs.declared.declaration.DeclarationParts.{DeclarationParts}
 use Rattle.sheet_rules.specs.declared.fault.BoundName.TheVariants as bound
 use Rattle.sheet_rules.specs.declared.fault.CssFault.{CssFault}
 use Rattle.sheet_rules.specs.declared.fault.CssFault.TheVariants.{BadToken, UnsupportedRule, Bound, NoMemory}
-use Rattle.sheet_rules.specs.declared.rule.KeyframesRule.{KeyframesRule}
-use Rattle.sheet_rules.specs.declared.rule.Rule.{Rule}
+use Rattle.sheet_types.specs.declared.rule.KeyframesRule.{KeyframesRule}
+use Rattle.sheet_types.specs.declared.rule.Rule.{Rule}
+use Rattle.sheet_types.specs.Sheets.{SheetRules, no_rules}
 use Rattle.sheet_rules.specs.Blocks.{block_at}
 use Rattle.sheet_rules.specs.Faults.{◌>>=◌}
 use Rattle.sheet_rules.specs.Keyframes.{keyframes_after, keyframes_at, wanted}
@@ -55,17 +56,6 @@ abbrev pub rule_after : List Rule → Result (Rule × List Token) CssFault → R
 rule_after rules found = found >>= (λ f. Ok (rules ++ f.0 ∷ [], f.1))
 
 -- ---- sheets
-
--- the rules of a sheet
-pub record SheetRules : Type 0 where
-  pub rules : List Rule
-  pub keyframes : List KeyframesRule
-
-abbrev pub sheet_rules : List Rule → List KeyframesRule → SheetRules
-sheet_rules rules keyframes = record { rules = rules; keyframes = keyframes }
-
-abbrev pub no_rules : SheetRules
-no_rules = record { rules = []; keyframes = [] }
 
 -- those rules, and the tokens after them
 abbrev pub RulesFound : Type 0

@@ -6,12 +6,12 @@ ghost use Rattle.sheet_rules.specs.Blocks.{after_separators, block_at, block_end
 ghost use Rattle.sheet_rules.specs.Faults.{Gives};
 
 use crate::block_kind::BlockKind;
-use crate::declaration::Declaration;
 use crate::fault::{BoundName, CssFault};
 use crate::judge::{bytes_of, judge};
 use crate::scan::{after, after_spaces, front, value_len};
 use css_token::{Kind, Token};
 use shorthand_text::name_of;
+use sheet_types::Declaration;
 use std::alloc::Global;
 
 /// How many declarations a block may have.

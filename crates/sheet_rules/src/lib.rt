@@ -5,22 +5,17 @@
 
 mod block;
 mod block_kind;
-mod declaration;
 mod fault;
 mod frames;
 mod judge;
 mod keyframes;
 mod offsets;
-mod rule;
 mod scan;
-mod sheet;
 mod sheet_reader;
-mod sheets;
 
 pub use block_kind::BlockKind;
-pub use declaration::{Declaration, DeclarationParts};
 pub use fault::{BoundName, CssFault};
-pub use rule::{KeyframesRule, Rule};
-pub use sheet::{Sheet, read_sheet};
-pub use sheet_reader::read_style;
-pub use sheets::Sheets;
+pub use sheet_reader::{read_sheet, read_style};
+pub use sheet_types::{
+    Declaration, DeclarationParts, KeyframesRule, Rule, SelectorPlace, Sheet, Sheets,
+};

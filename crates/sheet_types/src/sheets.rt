@@ -1,6 +1,6 @@
 //! The sheets of a document.
 ghost use Rattle.std.specs.Prelude.{◌≡◌, ◌≤◌, ◌-◌, length, None, replicate, set, slice_index_or, IfOk, option_copied};
-ghost use Rattle.sheet_rules.specs.Sheets.{no_sheets, sheet_at_place};
+ghost use Rattle.sheet_types.specs.Sheets.{no_sheets, sheet_at_place};
 
 use crate::sheet::Sheet;
 use std::alloc::AllocError;
@@ -14,7 +14,7 @@ pub struct Sheets {
 
 impl Model for Sheets {
     ghost use Rattle.std.specs.Prelude.{◌≡◌, List, Option, length};
-    ghost use Rattle.sheet_rules.specs.Rules.{SheetRules};
+    ghost use Rattle.sheet_types.specs.Sheets.{SheetRules};
 
     ghost Value = { List (Option SheetRules) };
 

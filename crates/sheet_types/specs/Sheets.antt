@@ -1,0 +1,29 @@
+-- Sheets as they are kept (CSS Syntax 3, "stylesheet"), and those of a document.
+use Rattle.std.specs.Prelude.{ℕ, ◌-◌, List, [], reverse, replicate, slice_index_or, find, Option, None, Some}
+use Rattle.std.specs.Option.{option_map_or}
+use Rattle.std.specs.Str.{bytes_eq}
+use Rattle.sheet_types.specs.declared.rule.KeyframesRule.{KeyframesRule}
+use Rattle.sheet_types.specs.declared.rule.Rule.{Rule}
+
+-- the rules of a sheet
+pub record SheetRules : Type 0 where
+  pub rules : List Rule
+  pub keyframes : List KeyframesRule
+
+abbrev pub sheet_rules : List Rule → List KeyframesRule → SheetRules
+sheet_rules rules keyframes = record { rules = rules; keyframes = keyframes }
+
+abbrev pub no_rules : SheetRules
+no_rules = record { rules = []; keyframes = [] }
+
+-- no sheet at any of the 16 places
+abbrev pub no_sheets : List (Option SheetRules)
+no_sheets = replicate 16 None
+
+-- the sheet at a place from 1
+abbrev pub sheet_at_place : List (Option SheetRules) → ℕ → Option SheetRules
+sheet_at_place sheets k = slice_index_or sheets (k - 1) None
+
+-- the last keyframes rule of the name (CSS Animations 1, section 3, "if multiple @keyframes rules are defined with the same name")
+abbrev pub keyframes_named : List ℕ → List KeyframesRule → Option KeyframesRule
+keyframes_named name rules = find (λ rule. bytes_eq rule.name name) (reverse rules)
