@@ -10,8 +10,8 @@ use crate::fault::{BoundName, CssFault};
 use crate::judge::{bytes_of, judge};
 use crate::scan::{after, after_spaces, front, value_len};
 use css_token::{Kind, Token};
-use shorthand_text::name_of;
 use sheet_types::Declaration;
+use shorthand_text::name_of;
 use std::alloc::Global;
 
 /// How many declarations a block may have.

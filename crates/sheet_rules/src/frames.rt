@@ -8,8 +8,8 @@ ghost use Rattle.shorthand_text.specs.Longhands.{IsLonghand};
 ghost use Rattle.sheet_rules.specs.Frames.{IsOffset, easing_given, easing_of, first_easing, put_block, put_blocks, put_frame, put_longhand, is_taken, stands_before};
 
 use fix_num::Bill;
-use shorthand_text::Longhand;
 use sheet_types::Declaration;
+use shorthand_text::Longhand;
 use std::alloc::AllocError;
 use timing_types::Easing;
 use value_types::{Frame, ListName, ListValue, PropertyId};

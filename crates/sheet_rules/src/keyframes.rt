@@ -19,8 +19,8 @@ use css_token::{Kind, Token};
 use fix_num::Bill;
 use sheet_types::KeyframesRule;
 use std::alloc::Global;
-use token_parts::parts;
 use timing_types::Name;
+use token_parts::parts;
 use value_types::{Frame, Frames};
 
 /// How many offsets the frames of a rule may have.

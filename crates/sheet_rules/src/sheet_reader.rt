@@ -15,8 +15,8 @@ use css_token::{Kind, Token, TokenFault, tokens};
 use selectors_mini::{SelectorFault, read_selectors};
 use sheet_types::{Declaration, KeyframesRule, Rule, Sheet};
 use std::alloc::Global;
-use token_parts::is_keyword;
 use timing_types::Items;
+use token_parts::is_keyword;
 
 /// How many rules a sheet may have, those of keyframes counted.
 const MOST: u32 = 4096;
@@ -146,10 +146,7 @@ fn sheet_at(
 }
 
 /// The rules of a text, or its first fault.
-fn rules_of(
-    alloc: Global,
-    text: &str,
-) -> Result<(Vec<Rule>, Vec<KeyframesRule>), CssFault>
+fn rules_of(alloc: Global, text: &str) -> Result<(Vec<Rule>, Vec<KeyframesRule>), CssFault>
     requires { length text.now ≤ 67108864 }
     ensures { Gives (λ sheet. sheet_rules sheet.0.items sheet.1.items) result (sheet_of text.now) }
 {

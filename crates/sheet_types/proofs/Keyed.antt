@@ -44,12 +44,12 @@ from_places key rule at [] place (k, within, is) = absurd (omega (arith, within)
 from_places key rule at (t ∷ ts) place h =
     ⊎_elim
     (λ (here : Contains (place_if (has_key key t) (selector_place rule at)) place).
-        let one = from_one (has_key key t) (selector_place rule at) place here in
-        record { i = 0; selector = t; stands = refl; keyed = one.0; is = one.1 ∙ ap (selector_place rule) (omega arith) })
+    let one = from_one (has_key key t) (selector_place rule at) place here in
+    record { i = 0; selector = t; stands = refl; keyed = one.0; is = one.1 ∙ ap (selector_place rule) (omega arith) })
     (λ (there : Contains (places_in key rule (at + 1) ts) place).
-        let more = from_places key rule (at + 1) ts place there in
-        let next : at + 1 + more.i ≡ at + suc more.i = omega arith in
-        record { i = suc more.i; selector = more.selector; stands = more.stands; keyed = more.keyed; is = more.is ∙ ap (selector_place rule) next })
+    let more = from_places key rule (at + 1) ts place there in
+    let next : at + 1 + more.i ≡ at + suc more.i = omega arith in
+    record { i = suc more.i; selector = more.selector; stands = more.stands; keyed = more.keyed; is = more.is ∙ ap (selector_place rule) next })
     (Contains-append_cases (place_if (has_key key t) (selector_place rule at)) (places_in key rule (at + 1) ts) place h)
 
 -- ---- the rules of a sheet
@@ -62,7 +62,8 @@ in_candidates : (key : SelectorKey) (at i : ℕ) (rules : List Rule) (place : Se
     → selector_further i rules place ≡ Some s → has_key key s ≡ true → Contains (candidates_from key at rules) place
 in_candidates key at i [] place s is stands keyed = absurd (cc)
 in_candidates key at zero (r ∷ rs) place s is stands keyed =
-    let same : selector_place at (0 + place.selector) ≡ place = (λ j. selector_place (here j) place.selector) in
+    let counted : 0 + place.selector ≡ place.selector = omega arith in
+    let same : selector_place at (0 + place.selector) ≡ place = ap (selector_place at) counted ∙ ap (λ n. selector_place n place.selector) here in
     Contains-append_left (places_in key at 0 r.selectors) (candidates_from key (at + 1) rs) place
     (subst (Contains (places_in key at 0 r.selectors)) same (in_places key at 0 place.selector r.selectors s stands keyed))
   where
@@ -85,15 +86,15 @@ from_candidates key at [] place (k, within, is) = absurd (omega (arith, within))
 from_candidates key at (r ∷ rs) place h =
     ⊎_elim
     (λ (here : Contains (places_in key at 0 r.selectors) place).
-        let one = from_places key at 0 r.selectors place here in
-        let second : place.selector ≡ one.i = ap (λ p. p.selector) one.is ∙ (omega arith) in
-        let first : place.rule ≡ at + 0 = ap (λ p. p.rule) one.is ∙ (omega arith) in
-        record { i = 0; selector = one.selector; stands = ap (slice_get r.selectors) second ∙ one.stands; keyed = one.keyed; is = first })
+    let one = from_places key at 0 r.selectors place here in
+    let second : place.selector ≡ one.i = ap (λ p. p.selector) one.is ∙ (omega arith) in
+    let first : place.rule ≡ at + 0 = ap (λ p. p.rule) one.is ∙ (omega arith) in
+    record { i = 0; selector = one.selector; stands = ap (slice_get r.selectors) second ∙ one.stands; keyed = one.keyed; is = first })
     (λ (there : Contains (candidates_from key (at + 1) rs) place).
-        let more = from_candidates key (at + 1) rs place there in
-        let is = more.is in
-        let next : place.rule ≡ at + suc more.i = omega (arith, is) in
-        record { i = suc more.i; selector = more.selector; stands = more.stands; keyed = more.keyed; is = next })
+    let more = from_candidates key (at + 1) rs place there in
+    let is = more.is in
+    let next : place.rule ≡ at + suc more.i = omega (arith, is) in
+    record { i = suc more.i; selector = more.selector; stands = more.stands; keyed = more.keyed; is = next })
     (Contains-append_cases (places_in key at 0 r.selectors) (candidates_from key (at + 1) rs) place h)
 
 pub keyed_is_candidate : (rules : List Rule) (key : SelectorKey) (place : SelectorPlace) → IsKeyed rules key place → Contains (candidates_of key rules) place

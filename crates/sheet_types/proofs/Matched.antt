@@ -69,6 +69,8 @@ matched_is_candidate rules place s e above stands matches = by (reverse s) refl 
   where
     by : (cs : List CompoundSelector) → reverse s ≡ cs → IsRepresented cs (e ∷ above) → (key : SelectorKey) × HasKey e key × Contains (candidates_of key rules) place
     by [] is h = absurd h
-    by (c ∷ cs) is h =
-        (key_of c, represented_has_key c e h,
-        keyed_is_candidate rules (key_of c) place (record { selector = s; stands = stands; keyed = has_own_key s c (subject_is s cs c is) }))
+    by (c ∷ cs) is h = (
+      key_of c,
+      represented_has_key c e h,
+      keyed_is_candidate rules (key_of c) place (record { selector = s; stands = stands; keyed = has_own_key s c (subject_is s cs c is) }),
+    )

@@ -1,8 +1,8 @@
 -- Lists by names, where a place is put under one.
 use Rattle.std.proofs.Common.{◌≡◌, ◌≢◌, ℕ, ◌+◌, ◌<◌, ◌≤◌, List, [], ◌∷◌, ◌++◌, Bool, true, false, length, get_or, set, map, refl, ap, sym, ◌∙◌, subst, arith, cond, ◌⊎◌, inl, inr}
-use Rattle.std.specs.Prelude.{not, position, Option, None, Some}
+use Rattle.std.specs.Prelude.{◌||◌, if◌then◌else◌, not, position, Option, None, Some}
 use Rattle.std.specs.Global.{Vec}
-use Rattle.std.specs.List.{position_or_len}
+use Rattle.std.specs.List.{list_any, position_or_len}
 use Rattle.std.specs.Str.{bytes_eq}
 use Rattle.std.proofs.lemmas.Bool.{cases_lt, le-ltb, lt-ltb, true≢false}
 use Rattle.std.proofs.lemmas.Bool.Decides.{nat_tests}
@@ -32,13 +32,15 @@ one_name (k ∷ ks) name other within same =
 
 some_at : {X : Type 0} (p : X → Bool) (xs : List X) (at : ℕ) → position p xs ≡ Some at → (at ≡ position_or_len p xs) × (position_or_len p xs < length xs)
 some_at p xs at found = elim (cases_lt (position_or_len p xs) (length xs)) [
-    inl h ↦ (let is : position p xs ≡ Some (position_or_len p xs) = rw (lt-ltb _ _ h) refl in cc, h)
-  | inr h ↦ absurd (let is : position p xs ≡ None = rw (le-ltb _ _ h) refl in cc) ]
+  | inl h ↦ (let is : position p xs ≡ Some (position_or_len p xs) = rw (lt-ltb _ _ h) refl in cc, h)
+  | inr h ↦ absurd (let is : position p xs ≡ None = rw (le-ltb _ _ h) refl in cc)
+]
 
 none_at : {X : Type 0} (p : X → Bool) (xs : List X) → position p xs ≡ None → length xs ≤ position_or_len p xs
 none_at p xs found = elim (cases_lt (position_or_len p xs) (length xs)) [
-    inl h ↦ absurd (let is : position p xs ≡ Some (position_or_len p xs) = rw (lt-ltb _ _ h) refl in cc)
-  | inr h ↦ h ]
+  | inl h ↦ absurd (let is : position p xs ≡ Some (position_or_len p xs) = rw (lt-ltb _ _ h) refl in cc)
+  | inr h ↦ h
+]
 
 held_is : (names : List (Vec ℕ)) (lists : List (Vec SelectorPlace)) (name : List ℕ) → held_in names lists name ≡ get_or (lists_of lists) (position_or_len (is_named name) names) []
 unfolding held_in
@@ -52,12 +54,16 @@ put_present names lists name other at list d place aligned found put = by (bytes
   where
     first : at ≡ position_or_len (is_named name) names
     first = (some_at (is_named name) names at found).0
+
     within : position_or_len (is_named name) names < length names
     within = (some_at (is_named name) names at found).1
+
     inside : at < length (lists_of lists)
     inside = omega (arith, first, within, aligned, length-map lists (λ (v : Vec SelectorPlace). v.items))
+
     old : get_or (lists_of lists) at [] ≡ (get_or lists at d).items
     old = get_or-map (λ (v : Vec SelectorPlace). v.items) lists at d [] (omega (arith, first, within, aligned))
+
     by : (same : Bool) → bytes_eq other name ≡ same → held_in names (set lists at list) other ≡ held_in names lists other ++ place_if same place
     by true e =
         let is = (bytes_eq-Decides other name).0 e in
@@ -96,14 +102,18 @@ put_absent names lists key name other list place aligned absent is_key is_list =
   where
     all : List (List SelectorPlace)
     all = lists_of lists
+
     many : length all ≡ length names
     many = length-map lists (λ (v : Vec SelectorPlace). v.items) ∙ sym aligned
+
     past : length names ≤ position_or_len (is_named name) names
     past = none_at (is_named name) names absent
+
     full : length names ≤ position_or_len (is_named other) names → position_or_len (is_named other) names ≡ length names
     full h = let most = prefix_len-le-length (λ k. not (is_named other k)) names in omega (arith, h, most)
+
     by : (position_or_len (is_named other) names < length names) ⊎ (length names ≤ position_or_len (is_named other) names) → (same : Bool) → bytes_eq other name ≡ same
-        → get_or (all ++ list.items ∷ []) (position_or_len (is_named other) (names ++ key ∷ [])) [] ≡ get_or all (position_or_len (is_named other) names) [] ++ place_if (bytes_eq other name) place
+        → get_or (all ++ list.items ∷ []) (position_or_len (is_named other) (names ++ key ∷ [])) [] ≡ get_or all (position_or_len (is_named other) names) [] ++ place_if same place
     by (inl h) true e =
         let is = (bytes_eq-Decides other name).0 e in
         let same : position_or_len (is_named other) names ≡ position_or_len (is_named name) names = ap (λ n. position_or_len (is_named n) names) is in
@@ -124,3 +134,36 @@ put_absent names lists key name other list place aligned absent is_key is_list =
         ap (λ n. get_or (all ++ list.items ∷ []) n []) (push_past (is_named other) names key here is)
         ∙ get_or_past (all ++ list.items ∷ []) (length names + 1) [] (omega (arith, many, length-append all (list.items ∷ [])))
         ∙ ap (λ xs. xs ++ []) (sym (get_or_past all (position_or_len (is_named other) names) [] (omega (arith, h, many))))
+
+-- no name has a list
+pub held_none : (names : List (Vec ℕ)) (lists : List (Vec SelectorPlace)) (name : List ℕ) → lists ≡ [] → held_in names lists name ≡ []
+held_none names lists name none = held_is names lists name ∙ ap (λ ls. get_or (lists_of ls) (position_or_len (is_named name) names) []) none
+
+-- a name that stands there has its list
+pub held_present : (names : List (Vec ℕ)) (lists : List (Vec SelectorPlace)) (name : List ℕ) (at : ℕ) (d : Vec SelectorPlace) → length names ≡ length lists
+    → position (is_named name) names ≡ Some at → held_in names lists name ≡ (get_or lists at d).items
+held_present names lists name at d aligned found =
+    let there = some_at (is_named name) names at found in
+    let inside : at < length lists = omega (arith, there.0, there.1, aligned) in
+    held_is names lists name ∙ ap (λ n. get_or (lists_of lists) n []) (sym there.0) ∙ get_or-map (λ (v : Vec SelectorPlace). v.items) lists at d [] inside
+
+-- a name that doesn't has none
+pub held_absent : (names : List (Vec ℕ)) (lists : List (Vec SelectorPlace)) (name : List ℕ) → length names ≡ length lists → position (is_named name) names ≡ None → held_in names lists name ≡ []
+held_absent names lists name aligned absent =
+    let past = none_at (is_named name) names absent in
+    held_is names lists name ∙ get_or_past (lists_of lists) (position_or_len (is_named name) names) [] (omega (arith, past, aligned, length-map lists (λ (v : Vec SelectorPlace). v.items)))
+
+none_passes : {X : Type 0} (p : X → Bool) (xs : List X) → length xs ≤ position_or_len p xs → list_any p xs ≡ false
+none_passes p [] past = refl
+none_passes p (x ∷ xs) past = by (λ rest. none_passes p xs rest) (p x) refl past
+  where
+    by : (length xs ≤ position_or_len p xs → list_any p xs ≡ false) → (b : Bool) → p x ≡ b → length (x ∷ xs) ≤ cond (not b) (1 + position_or_len p xs) 0 → (p x || list_any p xs) ≡ false
+    by others true is long = absurd (omega (arith, long))
+    by others false is long = let rest : length xs ≤ position_or_len p xs = omega (arith, long) in rw is (others rest)
+
+-- a key of a name that isn't there goes last
+pub added_key : (names : List (Vec ℕ)) (key : Vec ℕ) (name : List ℕ) → key.items ≡ name → position (is_named name) names ≡ None
+    → (if list_any (λ k. bytes_eq key.items k.items) names then names else names ++ key ∷ []) ≡ names ++ key ∷ []
+added_key names key name is absent =
+    let none : list_any (λ k. bytes_eq key.items k.items) names ≡ false = ap (λ n. list_any (is_named n) names) is ∙ none_passes (is_named name) names (none_at (is_named name) names absent) in
+    rw none refl

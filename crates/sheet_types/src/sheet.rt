@@ -82,7 +82,10 @@ impl Sheet {
     pub fn keyframes_named(&self, name: &[u8]) -> Option<&KeyframesRule>
         ensures { option_copied result ≡ keyframes_named name.now self.now.keyframes }
     {
-        self.keyframes().iter().rev().find(|rule| rule.name.as_bytes() == name)
+        self.keyframes()
+            .iter()
+            .rev()
+            .find(|rule| rule.name.as_bytes() == name)
     }
 
     /// The selectors that an element of this id asks for: those whose last compound names the id first. Takes no

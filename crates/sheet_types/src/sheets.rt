@@ -54,20 +54,28 @@ impl Sheets {
         self.places[k as usize - 1].as_ref()
     }
 
+    /// What stands at the places, in their order.
+    pub fn as_slice(&self) -> &[Option<Sheet>]
+        ensures value { result.now ≡ self.now }
+        ensures count { length result.now ≡ 16 }
+    {
+        self.places.as_slice()
+    }
+
     /// The same sheets, which are shared. Takes no memory: it fails only where a sheet has 2^63 copies already.
     pub fn copy(&self) -> Result<Sheets, AllocError>
         ensures { IfOk result (λ sheets. sheets ≡ self.now) }
     {
         let mut copies = Sheets::empty();
-        for place in 0..16u32 {
-            copies.put(place + 1, copy_of(self.get(place + 1))?);
+        for (at, sheet) in self.as_slice().iter().enumerate() {
+            copies.put(at as u32 + 1, copy_of(sheet)?);
         }
         Ok(copies)
     }
 }
 
-fn copy_of(sheet: Option<&Sheet>) -> Result<Option<Sheet>, AllocError>
-    ensures { IfOk result (λ copy. copy ≡ option_copied sheet.entry) }
+fn copy_of(sheet: &Option<Sheet>) -> Result<Option<Sheet>, AllocError>
+    ensures { IfOk result (λ copy. copy ≡ sheet.now) }
 {
     match sheet {
         None => Ok(None),

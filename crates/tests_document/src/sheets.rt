@@ -4,7 +4,9 @@ ghost use Rattle.std.specs.Prelude.{◌≤◌, length};
 
 use fix_num::{Bill, Fix};
 use sheet_rules::CssFault::{BadToken, Bound, UnsupportedRule, UnsupportedValue};
-use sheet_rules::{BoundName, CssFault, Declaration, SelectorPlace, Sheets, read_sheet, read_style};
+use sheet_rules::{
+    BoundName, CssFault, Declaration, SelectorPlace, Sheets, read_sheet, read_style,
+};
 use shorthand_text::{KnownName, Longhand};
 use std::alloc::{AllocError, Global};
 use std::test::Fail;
@@ -69,7 +71,10 @@ const SHEET_FAULTS: [(&str, CssFault); 52] = [
     ("@keyframes k { -1% { } }", UnsupportedRule { at: 15 }),
     ("@keyframes k { to, { } }", UnsupportedRule { at: 15 }),
     ("@keyframes k { from to { } }", UnsupportedRule { at: 15 }),
-    ("@keyframes k { to { } 10%, all { } }", UnsupportedRule { at: 22 }),
+    (
+        "@keyframes k { to { } 10%, all { } }",
+        UnsupportedRule { at: 22 },
+    ),
     // Values, told at the name.
     (
         "p { width: 1px; height: 2vh }",
@@ -85,7 +90,10 @@ const SHEET_FAULTS: [(&str, CssFault); 52] = [
     ),
     (
         "@keyframes k { to { width: !important 1px } }",
-        UnsupportedValue { name: WIDTH, at: 20 },
+        UnsupportedValue {
+            name: WIDTH,
+            at: 20,
+        },
     ),
     (
         "p { Transition-Delay: 1px }",
@@ -111,7 +119,10 @@ const STYLE_FAULTS: [(&str, CssFault); 13] = [
     ("x: \n; 1", BadToken { at: 6 }),
     ("width: 5vh }", UnsupportedValue { name: WIDTH, at: 0 }),
     ("x: !; width: !", UnsupportedValue { name: WIDTH, at: 6 }),
-    ("width: 1px !important 2px", UnsupportedValue { name: WIDTH, at: 0 }),
+    (
+        "width: 1px !important 2px",
+        UnsupportedValue { name: WIDTH, at: 0 },
+    ),
     (
         "opacity: 2; z-index: 2147483648",
         Bound {
@@ -138,43 +149,176 @@ const STYLE_FAULTS: [(&str, CssFault); 13] = [
 /// The limits of sheets: what stands first, what is repeated and how often, what stands last, and the fault.
 const LIMITS: [(&str, &str, usize, &str, Option<CssFault>); 20] = [
     ("", "a{}", 4096, "", None),
-    ("", "a{}", 4096, "@media", Some(Bound { what: BoundName::Rules, at: 12288 })),
+    (
+        "",
+        "a{}",
+        4096,
+        "@media",
+        Some(Bound {
+            what: BoundName::Rules,
+            at: 12288,
+        }),
+    ),
     ("", "a{}", 4095, " @keyframes k{} ", None),
-    ("", "a{}", 4096, " @keyframes", Some(Bound { what: BoundName::Rules, at: 12289 })),
+    (
+        "",
+        "a{}",
+        4096,
+        " @keyframes",
+        Some(Bound {
+            what: BoundName::Rules,
+            at: 12289,
+        }),
+    ),
     ("p{", "top:0;", 64, "}", None),
-    ("p{", "top:0;", 64, "top}", Some(Bound { what: BoundName::Declarations, at: 386 })),
-    ("p{", "x:0;", 64, "x:)}", Some(Bound { what: BoundName::Declarations, at: 258 })),
-    ("@keyframes k{to{", "all:0;", 64, "all:0}}", Some(Bound { what: BoundName::Declarations, at: 400 })),
+    (
+        "p{",
+        "top:0;",
+        64,
+        "top}",
+        Some(Bound {
+            what: BoundName::Declarations,
+            at: 386,
+        }),
+    ),
+    (
+        "p{",
+        "x:0;",
+        64,
+        "x:)}",
+        Some(Bound {
+            what: BoundName::Declarations,
+            at: 258,
+        }),
+    ),
+    (
+        "@keyframes k{to{",
+        "all:0;",
+        64,
+        "all:0}}",
+        Some(Bound {
+            what: BoundName::Declarations,
+            at: 400,
+        }),
+    ),
     ("p{transition-delay:0s", ",0s", 31, "}", None),
-    ("p{transition-delay:0s", ",0s", 32, "}", Some(Bound { what: BoundName::Items, at: 2 })),
-    ("p{transition-delay:1000000001s", ",0s", 32, "}", Some(Bound { what: BoundName::Items, at: 2 })),
+    (
+        "p{transition-delay:0s",
+        ",0s",
+        32,
+        "}",
+        Some(Bound {
+            what: BoundName::Items,
+            at: 2,
+        }),
+    ),
+    (
+        "p{transition-delay:1000000001s",
+        ",0s",
+        32,
+        "}",
+        Some(Bound {
+            what: BoundName::Items,
+            at: 2,
+        }),
+    ),
     ("*", ",*", 31, "{}", None),
-    ("a{}*", ",*", 32, "{}", Some(Bound { what: BoundName::Selectors, at: 3 })),
-    ("a a a a a a a a a a a a a a a a a", ",*", 32, "{}", Some(Bound { what: BoundName::Selectors, at: 0 })),
+    (
+        "a{}*",
+        ",*",
+        32,
+        "{}",
+        Some(Bound {
+            what: BoundName::Selectors,
+            at: 3,
+        }),
+    ),
+    (
+        "a a a a a a a a a a a a a a a a a",
+        ",*",
+        32,
+        "{}",
+        Some(Bound {
+            what: BoundName::Selectors,
+            at: 0,
+        }),
+    ),
     ("*", " *", 15, "{}", None),
-    ("a{} *", " *", 16, "{}", Some(Bound { what: BoundName::Compounds, at: 4 })),
+    (
+        "a{} *",
+        " *",
+        16,
+        "{}",
+        Some(Bound {
+            what: BoundName::Compounds,
+            at: 4,
+        }),
+    ),
     ("@keyframes k{to", ",to", 63, "{}}", None),
-    ("@keyframes k{to", ",to", 64, "{}}", Some(Bound { what: BoundName::Offsets, at: 13 })),
+    (
+        "@keyframes k{to",
+        ",to",
+        64,
+        "{}}",
+        Some(Bound {
+            what: BoundName::Offsets,
+            at: 13,
+        }),
+    ),
     ("@keyframes k{", "to{}", 64, "}", None),
-    ("@keyframes k{", "to{}", 64, " from{width:5vh}}", Some(Bound { what: BoundName::Offsets, at: 270 })),
+    (
+        "@keyframes k{",
+        "to{}",
+        64,
+        " from{width:5vh}}",
+        Some(Bound {
+            what: BoundName::Offsets,
+            at: 270,
+        }),
+    ),
 ];
 
 /// What is over a limit, and of no form besides.
 const WORSE: [(&str, &str, usize, &str, CssFault); 3] = [
     ("*", ",*", 32, ",{}", UnsupportedRule { at: 0 }),
-    ("@keyframes k{to", ",to", 64, ",{}}", UnsupportedRule { at: 13 }),
-    ("p{transition-delay:1px", ",0s", 32, "}", UnsupportedValue { name: DELAY, at: 2 }),
+    (
+        "@keyframes k{to",
+        ",to",
+        64,
+        ",{}}",
+        UnsupportedRule { at: 13 },
+    ),
+    (
+        "p{transition-delay:1px",
+        ",0s",
+        32,
+        "}",
+        UnsupportedValue { name: DELAY, at: 2 },
+    ),
 ];
 
 /// The declarations of style attributes: property, value, importance and place.
 const STYLES: [(&str, &[(PropertyId, Declared, bool, u32)]); 6] = [
     ("", &[]),
     (" ; ;", &[]),
-    ("opacity: .5", &[(PropertyId::Opacity, Declared::Number(Fix(500_000)), false, 0)]),
+    (
+        "opacity: .5",
+        &[(
+            PropertyId::Opacity,
+            Declared::Number(Fix(500_000)),
+            false,
+            0,
+        )],
+    ),
     (
         "OPACITY:1;;opacity : 0!Important",
         &[
-            (PropertyId::Opacity, Declared::Number(Fix(1_000_000)), false, 0),
+            (
+                PropertyId::Opacity,
+                Declared::Number(Fix(1_000_000)),
+                false,
+                0,
+            ),
             (PropertyId::Opacity, Declared::Number(Fix(0)), true, 1),
         ],
     ),
@@ -182,7 +326,10 @@ const STYLES: [(&str, &[(PropertyId, Declared, bool, u32)]); 6] = [
         "x:(;)[];--y:f(:);opacity:0 ! important ;",
         &[(PropertyId::Opacity, Declared::Number(Fix(0)), true, 2)],
     ),
-    ("x:;bottom:auto", &[(PropertyId::Bottom, Declared::Auto, false, 1)]),
+    (
+        "x:;bottom:auto",
+        &[(PropertyId::Bottom, Declared::Auto, false, 1)],
+    ),
 ];
 
 const OPAQUE: Declared = Declared::Number(Fix(1_000_000));
@@ -248,7 +395,10 @@ fn is_declared(declaration: &Declaration, wanted: &(PropertyId, Declared, bool, 
     let parts = declaration.get();
     match &parts.longhand {
         Longhand::Property(p, value) => {
-            *p == wanted.0 && *value == wanted.1 && parts.important == wanted.2 && parts.place == wanted.3
+            *p == wanted.0
+                && *value == wanted.1
+                && parts.important == wanted.2
+                && parts.place == wanted.3
         }
         Longhand::List(_, _) => false,
     }
@@ -261,7 +411,13 @@ fn is_frame(frame: &Frame, wanted: &(i64, PropertyId, Declared, Option<Easing>))
         && frame.easing == wanted.3
 }
 
-fn repeated(alloc: Global, first: &str, part: &str, count: usize, last: &str) -> Result<String, AllocError> {
+fn repeated(
+    alloc: Global,
+    first: &str,
+    part: &str,
+    count: usize,
+    last: &str,
+) -> Result<String, AllocError> {
     let mut text = String::new(alloc);
     text.push_str(first)?;
     for _ in 0..count {
@@ -338,7 +494,10 @@ fn each_rule_has_its_frames(rt: HostRuntime) -> Result<(), Fail> {
 
 #[test]
 fn rules_have_places_among_all(rt: HostRuntime) -> Result<(), Fail> {
-    let sheet = read_sheet(rt.alloc(), "a { } @keyframes k { } b, c { opacity: 0 } @keyframes k { to { top: auto } }")?;
+    let sheet = read_sheet(
+        rt.alloc(),
+        "a { } @keyframes k { } b, c { opacity: 0 } @keyframes k { to { top: auto } }",
+    )?;
     let sheet = sheet.copy()?;
     assert!(rt; sheet.rules().len() == 2);
     assert!(rt; sheet.rules()[0].place == 0);
@@ -381,10 +540,8 @@ fn sheets_keep_their_places(rt: HostRuntime) -> Result<(), Fail> {
 
 fn is_at(places: &[SelectorPlace], wanted: &[(usize, usize)]) -> bool {
     places.len() == wanted.len()
-        && places
-            .iter()
-            .zip(wanted.iter())
-            .all(|(place, one)| place.rule == one.0 && place.selector == one.1)
+        && places.iter().zip(wanted.iter()).all(|(place, one)| place.rule == one.0
+            && place.selector == one.1)
 }
 
 #[test]

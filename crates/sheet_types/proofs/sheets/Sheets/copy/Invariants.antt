@@ -3,5 +3,5 @@ use Rattle.std.specs.Prelude.{None}
 use Rattle.sheet_types.proofs.sheets.Sheets.copy.Given as goal
 
 -- the places so far have the sheets
-abbrev pub invariant-loop-place : goal.invariant-loop-place
-invariant-loop-place l = (length l.copies ≡ 16) × (length l.self ≡ 16) × ((k : ℕ) → k < l.place → get_or l.copies k None ≡ get_or l.self k None)
+abbrev pub invariant-loop-at : goal.invariant-loop-at
+invariant-loop-at l = (length l.copies ≡ 16) × ((k : ℕ) → k < l.at → get_or l.copies k None ≡ get_or l.self k None)
