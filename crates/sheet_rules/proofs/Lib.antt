@@ -1,6 +1,9 @@
 pub mod ScanLemmas
+pub mod Pairs
 pub mod Within
 pub mod BlockLemmas
+pub mod DeclarationReadings
+pub mod BlockReadings
 pub mod FaultLemmas
 pub mod OffsetLemmas
 pub mod FrameLemmas
@@ -8,3 +11,4 @@ pub mod FrameOrder
 pub mod PutFrames
 pub mod KeyframesLemmas
 pub mod SheetLemmas
+pub mod StyleReadings

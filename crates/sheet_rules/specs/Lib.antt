@@ -1,7 +1,10 @@
 pub mod Faults
 pub mod Scanning
+pub mod Pairing
 pub mod Declarations
 pub mod Blocks
+pub mod BlockGrammar
 pub mod Frames
 pub mod Keyframes
 pub mod Rules
+pub mod StyleGrammar

@@ -9,12 +9,14 @@ mod fault;
 mod frames;
 mod judge;
 mod keyframes;
+mod laws;
 mod offsets;
 mod scan;
 mod sheet_reader;
 
 pub use block_kind::BlockKind;
 pub use fault::{BoundName, CssFault};
+pub use laws::{a_style_or_a_fault, block_reading_is_exact, style_reading_is_exact, values_pair};
 pub use sheet_reader::{read_sheet, read_style};
 pub use sheet_types::{
     Declaration, DeclarationParts, KeyframesRule, Rule, SelectorPlace, Sheet, Sheets,

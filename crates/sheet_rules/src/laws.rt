@@ -1,0 +1,42 @@
+//! What holds of texts by the definitions alone.
+ghost use Rattle.std.specs.Prelude.{◌≡◌, ◌↔◌, ◌⊎◌, ⊥, ℕ, List, [], Ok, Err};
+ghost use Rattle.css_token.specs.declared.token.Token.{Token};
+ghost use Rattle.sheet_types.specs.declared.declaration.DeclarationParts.{DeclarationParts};
+ghost use Rattle.sheet_rules.specs.declared.block_kind.BlockKind.{BlockKind};
+ghost use Rattle.sheet_rules.specs.declared.fault.CssFault.{CssFault};
+ghost use Rattle.sheet_rules.specs.declared.fault.CssFault.TheVariants.{BadToken};
+ghost use Rattle.sheet_rules.specs.BlockGrammar.{IsBlock, IsFaultyBlock};
+ghost use Rattle.sheet_rules.specs.Blocks.{block_at};
+ghost use Rattle.sheet_rules.specs.Pairing.{IsUnpaired, IsValue};
+ghost use Rattle.sheet_rules.specs.Rules.{declarations_in};
+ghost use Rattle.sheet_rules.specs.Scanning.{value_len};
+ghost use Rattle.sheet_rules.specs.StyleGrammar.{IsFaultyStyle, IsStyle};
+
+/// The count of a value's tokens is told exactly where its brackets pair up to its end, and else the first token
+/// that may not follow.
+pub fn values_pair()
+    ensures value { (end : ℕ) (ts : List Token) (n : ℕ) → IsValue ts n ↔ (value_len end [] ts ≡ Ok n) }
+    ensures fault { (end : ℕ) (ts : List Token) (at : ℕ) → IsUnpaired end ts at ↔ (value_len end [] ts ≡ Err (BadToken at)) }
+{}
+
+/// The reading of a block is what the grammar says of it, and its first fault exactly where it is none.
+pub fn block_reading_is_exact()
+    ensures block { (block : BlockKind) (text : List ℕ) (ts : List Token) (ds : List DeclarationParts) (rest : List Token)
+        → IsBlock block text 0 ts ds rest ↔ (block_at block text 0 64 ts ≡ Ok (ds, rest)) }
+    ensures fault { (block : BlockKind) (text : List ℕ) (ts : List Token) (fault : CssFault)
+        → IsFaultyBlock block text 0 ts fault ↔ (block_at block text 0 64 ts ≡ Err fault) }
+{}
+
+/// The reading of a style attribute is what the grammar says of it, and its first fault exactly where it is none.
+pub fn style_reading_is_exact()
+    ensures style { (text : List ℕ) (ds : List DeclarationParts) → IsStyle text ds ↔ (declarations_in text ≡ Ok ds) }
+    ensures fault { (text : List ℕ) (fault : CssFault) → IsFaultyStyle text fault ↔ (declarations_in text ≡ Err fault) }
+{}
+
+/// A text is a style attribute or has a first fault, and never both; and it has one of either kind.
+pub fn a_style_or_a_fault()
+    ensures either { (text : List ℕ) → ((ds : List DeclarationParts) × IsStyle text ds) ⊎ ((fault : CssFault) × IsFaultyStyle text fault) }
+    ensures never_both { (text : List ℕ) (ds : List DeclarationParts) (fault : CssFault) → IsStyle text ds → IsFaultyStyle text fault → ⊥ }
+    ensures one_style { (text : List ℕ) (ds others : List DeclarationParts) → IsStyle text ds → IsStyle text others → ds ≡ others }
+    ensures one_fault { (text : List ℕ) (fault other : CssFault) → IsFaultyStyle text fault → IsFaultyStyle text other → fault ≡ other }
+{}
