@@ -1,5 +1,5 @@
 -- How a block is read declaration by declaration.
-use Rattle.std.proofs.Common.{◌≡◌, ℕ, ◌+◌, ◌-◌, ◌≤◌, ◌<◌, zero, suc, inl, inr, List, [], ◌++◌, append_assoc, append-nil, length, refl, ap, sym, ◌∙◌, subst, arith}
+use Rattle.std.proofs.Common.{◌≡◌, ℕ, ◌+◌, ◌-◌, ◌≤◌, ◌<◌, zero, suc, inl, inr, List, [], ◌++◌, append_assoc, length, refl, ap, sym, ◌∙◌, arith}
 use Rattle.std.specs.Prelude.{None, Some, Ok, Err}
 use Rattle.std.proofs.lemmas.Bool.{cases_lt}
 use Rattle.css_token.specs.declared.token.Token.{Token}

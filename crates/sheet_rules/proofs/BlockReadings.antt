@@ -1,5 +1,5 @@
 -- The reading of a block is what the grammar says, or its first fault.
-use Rattle.std.proofs.Common.{◌≡◌, ◌≢◌, ℕ, zero, suc, ◌+◌, ◌<◌, ◌≤◌, List, [], ◌∷◌, ◌++◌, length, refl, ap, sym, ◌∙◌, subst, arith}
+use Rattle.std.proofs.Common.{◌≡◌, ◌≢◌, ℕ, zero, suc, ◌+◌, ◌<◌, List, [], ◌∷◌, length, refl, ap, sym, ◌∙◌, subst, arith}
 use Rattle.std.specs.Prelude.{Option, None, Some, Result, Ok, Err}
 use Rattle.css_token.specs.declared.token.Kind.{Kind}
 use Rattle.css_token.specs.declared.token.Kind.TheVariants as kind
@@ -80,10 +80,6 @@ module _ (block : BlockKind) (text : List ℕ) where
   BlockSays place ts (Ok found) = IsBlock block text place ts found.0 found.1
   BlockSays place ts (Err fault) = IsFaultyBlock block text place ts fault
 
-  -- a name is one too many
-  full : Token → Found
-  full name = Err (Bound bound.Declarations name.from)
-
   of_last : (place : ℕ) (ts : List Token) → place ≡ 64 → (r : Result (Option Token × List Token) CssFault) → PartSays block (length text) (after_separators ts) r
       → BlockSays place ts (r >>= (λ part. ended_or part.0 part.1 (λ name. Err (Bound bound.Declarations name.from))))
   of_last place ts whole (Ok (None, rest)) h = grammar.ended place ts rest h
@@ -100,17 +96,21 @@ module _ (block : BlockKind) (text : List ℕ) where
     where
       few : place < 64
       few = omega (arith, whole)
+
       after_first : (name : Token) (after : List Token) → IsName (after_separators ts) name after → (first : List DeclarationParts) (next : List Token)
           → IsDeclaration block text place name after first next → (r : Found) → BlockSays (place + 1) next r → BlockSays place ts (with_front first r)
       after_first name after is_name first next declared (Ok found) h = grammar.declaration place ts name after first found.0 next found.1 few is_name declared h
       after_first name after is_name first next declared (Err fault) h = grammar.later place ts name after first next fault few is_name declared h
+
+      of_declaration : Token → List Token → Found → Type 0
+      of_declaration name after (Ok found) = IsDeclaration block text place name after found.0 found.1
+      of_declaration name after (Err fault) = IsFaultyDeclaration block text place name after fault
+
       of_first : ((next : List Token) → BlockSays (place + 1) next (block_at block text (place + 1) left next)) → (name : Token) (after : List Token) → IsName (after_separators ts) name after
           → (r : Found) → of_declaration name after r → BlockSays place ts (r >>= (λ first. with_front first.0 (block_at block text (place + 1) left first.1)))
       of_first others name after is_name (Ok first) h = after_first name after is_name first.0 first.1 h (block_at block text (place + 1) left first.1) (others first.1)
       of_first others name after is_name (Err fault) h = grammar.here place ts name after fault few is_name h
-      of_declaration : Token → List Token → Found → Type 0
-      of_declaration name after (Ok found) = IsDeclaration block text place name after found.0 found.1
-      of_declaration name after (Err fault) = IsFaultyDeclaration block text place name after fault
+
       by : ((next : List Token) → BlockSays (place + 1) next (block_at block text (place + 1) left next)) → (r : Result (Option Token × List Token) CssFault)
           → PartSays block (length text) (after_separators ts) r
           → BlockSays place ts (r >>= (λ part. ended_or part.0 part.1 (λ name.

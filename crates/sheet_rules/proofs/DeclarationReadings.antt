@@ -1,5 +1,5 @@
 -- The reading of a declaration is what the grammar says, or its first fault.
-use Rattle.std.proofs.Common.{◌≡◌, ◌≢◌, ℕ, ◌+◌, List, [], ◌∷◌, length, drop, take, refl, ap, sym, ◌∙◌, subst, arith}
+use Rattle.std.proofs.Common.{◌≡◌, ◌≢◌, ℕ, List, [], ◌∷◌, length, drop, take, refl, ap, sym, ◌∙◌, subst, arith}
 use Rattle.std.specs.Prelude.{Result, Ok, Err}
 use Rattle.css_token.specs.TokenLists.{bytes_of}
 use Rattle.css_token.specs.declared.token.Kind.{Kind}
@@ -15,7 +15,7 @@ use Rattle.sheet_rules.specs.BlockGrammar.{IsColon, IsDeclaration, IsFaultyDecla
 use Rattle.sheet_rules.specs.BlockGrammar as grammar
 use Rattle.sheet_rules.specs.Declarations.{judged, solid}
 use Rattle.sheet_rules.specs.Faults.{◌>>=◌}
-use Rattle.sheet_rules.specs.Pairing.{IsUnpaired, IsValue}
+use Rattle.sheet_rules.specs.Pairing.{IsValue}
 use Rattle.sheet_rules.specs.Scanning.{after_spaces, value_len}
 use Rattle.sheet_rules.proofs.Pairs.{IsCounted, at_first, unpaired_is_told, value_is_counted}
 
@@ -43,6 +43,7 @@ colon_says end ts = by (after_spaces ts) refl
     of_kind : (t : Token) (us : List Token) (k : Kind) → after_spaces ts ≡ t ∷ us → t.kind ≡ k → ColonSays end ts (colon_of k t.from us)
     of_kind t us kind.Colon stands is = record { colon = t; is = is; stands = stands }
     of_kind t us k stands is = (t.from, refl, subst (λ l. IsNoColon end l t.from) (sym stands) (grammar.other t us (λ e. cc)))
+
     by : (us : List Token) → after_spaces ts ≡ us → ColonSays end ts (colon_at end us)
     by [] stands = (end, refl, subst (λ l. IsNoColon end l end) (sym stands) grammar.text_end)
     by (t ∷ us) stands = of_kind t us t.kind stands refl

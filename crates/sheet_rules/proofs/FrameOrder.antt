@@ -1,13 +1,13 @@
 -- The order of frames.
-use Rattle.std.proofs.Common.{◌≡◌, ℕ, ◌<◌, ◌≤◌, ℤ, ◌<ℤ◌, ◌≤ℤ◌, List, [], ◌∷◌, refl, ap, sym, ◌∙◌, subst, inl, inr, Bool, true, false, not, arith}
+use Rattle.std.proofs.Common.{◌≡◌, ℕ, ◌<◌, ℤ, ◌<ℤ◌, sym, ◌∙◌, subst, inl, inr, true, false, not, arith}
 use Rattle.std.proofs.lemmas.Int.{ints}
-use Rattle.std.specs.Prelude.{◌⊎◌, ◌||◌, ◌&&◌, nat_lt, All, AllPairs}
+use Rattle.std.specs.Prelude.{◌⊎◌, ◌||◌, ◌&&◌, nat_lt}
 use Rattle.std.specs.Int.Signed.{lt_z}
 use Rattle.std.proofs.lemmas.Bool.Decides.{nat_tests}
-use Rattle.value_types.specs.Keyframes.{IsFrameBefore, IsFrame, IsFrames}
+use Rattle.value_types.specs.Keyframes.{IsFrameBefore}
 use Rattle.value_types.specs.Properties.{number_of}
 use Rattle.value_types.specs.declared.frame.Frame.{Frame}
-use Rattle.sheet_rules.specs.Frames.{put_frame, stands_before}
+use Rattle.sheet_rules.specs.Frames.{stands_before}
 
 before_key : (a b : ℤ) (m n : ℕ) → (lt_z a b || (not (lt_z b a) && nat_lt m n)) ≡ true → (a <ℤ b) ⊎ ((a ≡ b) × (m < n))
 before_key a b m n e = grind (arith, ints, nat_tests)

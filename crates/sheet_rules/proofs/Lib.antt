@@ -10,5 +10,8 @@ pub mod FrameLemmas
 pub mod FrameOrder
 pub mod PutFrames
 pub mod KeyframesLemmas
+pub mod KeyframeReadings
+pub mod KeyframesReadings
 pub mod SheetLemmas
 pub mod StyleReadings
+pub mod SheetReadings

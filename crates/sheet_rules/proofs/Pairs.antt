@@ -1,6 +1,7 @@
 -- The count of a value's tokens says where its brackets pair.
-use Rattle.std.proofs.Common.{◌≡◌, ℕ, suc, ◌+◌, ◌<◌, ◌≤◌, Bool, true, false, List, [], ◌∷◌, ◌++◌, append_assoc, append-nil, length, drop, take, refl, ap, sym, ◌∙◌, subst, arith}
+use Rattle.std.proofs.Common.{◌≡◌, ℕ, suc, ◌+◌, Bool, true, false, List, [], ◌∷◌, ◌++◌, append_assoc, append-nil, length, drop, take, refl, ap, sym, ◌∙◌, subst, arith}
 use Rattle.std.specs.Prelude.{Result, Ok, Err, IsTrue}
+use Rattle.std.proofs.Math.Dec.{eqb-suc-zero}
 use Rattle.std.proofs.Math.Seq.{drop-append_seam, take-append_seam}
 use Rattle.std.proofs.lemmas.List.{length-append, length-take-le, take-append-drop}
 use Rattle.css_token.specs.declared.token.Kind.{Kind}
@@ -25,40 +26,40 @@ is_inside (b ∷ stack) = true
 
 -- what a token does, by what it is
 pub data Does (stack : List Bracket) (k : Kind) : Type 0 where
-  ends : stack ≡ [] → ends_value k ≡ true → (step_of k stack).0 ≡ Stop → Does stack k
-  misplaced : is_misplaced stack k ≡ true → (step_of k stack).0 ≡ Bad → Does stack k
-  goes : is_plain (is_inside stack) k ≡ true → step_of k stack ≡ (Go, stack) → Does stack k
-  opens_round : opens_round k ≡ true → step_of k stack ≡ (Go, Round ∷ stack) → Does stack k
-  opens_square : k ≡ kind.SquareOpen → step_of k stack ≡ (Go, Square ∷ stack) → Does stack k
-  closes_round : (others : List Bracket) → stack ≡ Round ∷ others → k ≡ kind.RoundClose → step_of k stack ≡ (Go, others) → Does stack k
-  closes_square : (others : List Bracket) → stack ≡ Square ∷ others → k ≡ kind.SquareClose → step_of k stack ≡ (Go, others) → Does stack k
+  does_end : stack ≡ [] → ends_value k ≡ true → (step_of k stack).0 ≡ Stop → Does stack k
+  does_wrong : is_misplaced stack k ≡ true → (step_of k stack).0 ≡ Bad → Does stack k
+  does_go : is_plain (is_inside stack) k ≡ true → step_of k stack ≡ (Go, stack) → Does stack k
+  does_open : opens_round k ≡ true → step_of k stack ≡ (Go, Round ∷ stack) → Does stack k
+  does_open_square : k ≡ kind.SquareOpen → step_of k stack ≡ (Go, Square ∷ stack) → Does stack k
+  does_close : (others : List Bracket) → stack ≡ Round ∷ others → k ≡ kind.RoundClose → step_of k stack ≡ (Go, others) → Does stack k
+  does_close_square : (others : List Bracket) → stack ≡ Square ∷ others → k ≡ kind.SquareClose → step_of k stack ≡ (Go, others) → Does stack k
 
 pub does : (stack : List Bracket) (k : Kind) → Does stack k
-does [] kind.Semicolon = ends refl refl refl
-does [] kind.CurlyClose = ends refl refl refl
-does [] kind.CurlyOpen = misplaced refl refl
-does [] kind.RoundOpen = opens_round refl refl
-does [] kind.Function = opens_round refl refl
-does [] kind.SquareOpen = opens_square refl refl
-does [] kind.RoundClose = misplaced refl refl
-does [] kind.SquareClose = misplaced refl refl
-does [] k = goes refl refl
-does (Round ∷ stack) kind.CurlyClose = misplaced refl refl
-does (Round ∷ stack) kind.CurlyOpen = misplaced refl refl
-does (Round ∷ stack) kind.RoundOpen = opens_round refl refl
-does (Round ∷ stack) kind.Function = opens_round refl refl
-does (Round ∷ stack) kind.SquareOpen = opens_square refl refl
-does (Round ∷ stack) kind.RoundClose = closes_round stack refl refl refl
-does (Round ∷ stack) kind.SquareClose = misplaced refl refl
-does (Round ∷ stack) k = goes refl refl
-does (Square ∷ stack) kind.CurlyClose = misplaced refl refl
-does (Square ∷ stack) kind.CurlyOpen = misplaced refl refl
-does (Square ∷ stack) kind.RoundOpen = opens_round refl refl
-does (Square ∷ stack) kind.Function = opens_round refl refl
-does (Square ∷ stack) kind.SquareOpen = opens_square refl refl
-does (Square ∷ stack) kind.RoundClose = misplaced refl refl
-does (Square ∷ stack) kind.SquareClose = closes_square stack refl refl refl
-does (Square ∷ stack) k = goes refl refl
+does [] kind.Semicolon = does_end refl refl refl
+does [] kind.CurlyClose = does_end refl refl refl
+does [] kind.CurlyOpen = does_wrong refl refl
+does [] kind.RoundOpen = does_open refl refl
+does [] kind.Function = does_open refl refl
+does [] kind.SquareOpen = does_open_square refl refl
+does [] kind.RoundClose = does_wrong refl refl
+does [] kind.SquareClose = does_wrong refl refl
+does [] k = does_go refl refl
+does (Round ∷ stack) kind.CurlyClose = does_wrong refl refl
+does (Round ∷ stack) kind.CurlyOpen = does_wrong refl refl
+does (Round ∷ stack) kind.RoundOpen = does_open refl refl
+does (Round ∷ stack) kind.Function = does_open refl refl
+does (Round ∷ stack) kind.SquareOpen = does_open_square refl refl
+does (Round ∷ stack) kind.RoundClose = does_close stack refl refl refl
+does (Round ∷ stack) kind.SquareClose = does_wrong refl refl
+does (Round ∷ stack) k = does_go refl refl
+does (Square ∷ stack) kind.CurlyClose = does_wrong refl refl
+does (Square ∷ stack) kind.CurlyOpen = does_wrong refl refl
+does (Square ∷ stack) kind.RoundOpen = does_open refl refl
+does (Square ∷ stack) kind.Function = does_open refl refl
+does (Square ∷ stack) kind.SquareOpen = does_open_square refl refl
+does (Square ∷ stack) kind.RoundClose = does_wrong refl refl
+does (Square ∷ stack) kind.SquareClose = does_close_square stack refl refl refl
+does (Square ∷ stack) k = does_go refl refl
 
 -- a plain token goes on
 plain_goes : (stack : List Bracket) (k : Kind) → is_plain (is_inside stack) k ≡ true → step_of k stack ≡ (Go, stack)
@@ -169,6 +170,9 @@ open_counts (pairing.round stack ts t within before opens inner) end rest =
 open_counts (pairing.square stack ts t within before opens inner) end rest =
     opened_counts end stack Square ts t within rest (ap (λ k. step_of k stack) opens) (open_counts before end (t ∷ (within ++ rest))) (paired_counts inner end (Square ∷ stack) rest refl)
 
+some_open : (end : ℕ) (b : Bracket) (stack : List Bracket) → none_open end (b ∷ stack) ≡ Err (BadToken end)
+some_open end b stack = rw (eqb-suc-zero (length stack)) refl
+
 -- a value has as many tokens as are counted
 pub value_is_counted : (end : ℕ) (ts : List Token) (n : ℕ) → IsValue ts n → value_len end [] ts ≡ Ok n
 value_is_counted end ts n h =
@@ -186,7 +190,7 @@ unpaired_is_told end (pairing.misplaced stack front t rest before bad) =
     open_counts before end (t ∷ rest)
     ∙ ap (counted_from (length front)) (value_len_cons end stack t rest ∙ ap (λ does. after_step t.from does (value_len end (step_of t.kind stack).1 rest)) (misplaced_is_bad stack t.kind bad))
 unpaired_is_told end (pairing.unclosed b stack ts before) =
-    ap (value_len end []) (sym (append-nil ts)) ∙ open_counts before end [] ∙ ap (counted_from (length ts)) (value_len_nil end (b ∷ stack))
+    ap (value_len end []) (sym (append-nil ts)) ∙ open_counts before end [] ∙ ap (counted_from (length ts)) (value_len_nil end (b ∷ stack) ∙ some_open end b stack)
 
 -- ---- what is counted pairs
 
@@ -229,13 +233,13 @@ top_of (pairing.square stack ts t within before opens inner) = record { front = 
 closed_round : (stack : List Bracket) (ts : List Token) (u : Token) → IsOpen (Round ∷ stack) ts → u.kind ≡ kind.RoundClose → IsOpen stack (ts ++ (u ∷ []))
 closed_round stack ts u before closes =
     let top = top_of before in
-    let pair = pairing.round (is_inside stack) top.t top.within u [] top.opened top.inner closes (pairing.nothing (is_inside stack)) in
+    let pair : IsPaired (is_inside stack) (top.t ∷ (top.within ++ (u ∷ []))) = pairing.round (is_inside stack) top.t top.within u [] top.opened top.inner closes (pairing.nothing (is_inside stack)) in
     subst (IsOpen stack) (sym (ap (λ l. l ++ (u ∷ [])) top.is ∙ append_assoc top.front (top.t ∷ top.within) (u ∷ []))) (open_append top.before (top.t ∷ (top.within ++ (u ∷ []))) pair)
 
 closed_square : (stack : List Bracket) (ts : List Token) (u : Token) → IsOpen (Square ∷ stack) ts → u.kind ≡ kind.SquareClose → IsOpen stack (ts ++ (u ∷ []))
 closed_square stack ts u before closes =
     let top = top_of before in
-    let pair = pairing.square (is_inside stack) top.t top.within u [] top.opened top.inner closes (pairing.nothing (is_inside stack)) in
+    let pair : IsPaired (is_inside stack) (top.t ∷ (top.within ++ (u ∷ []))) = pairing.square (is_inside stack) top.t top.within u [] top.opened top.inner closes (pairing.nothing (is_inside stack)) in
     subst (IsOpen stack) (sym (ap (λ l. l ++ (u ∷ [])) top.is ∙ append_assoc top.front (top.t ∷ top.within) (u ∷ []))) (open_append top.before (top.t ∷ (top.within ++ (u ∷ []))) pair)
 
 -- what is counted after so many tokens is a value, or tells where brackets don't pair
@@ -271,7 +275,7 @@ pub counts : (end : ℕ) (ts before : List Token) (stack : List Bracket) → IsO
 counts end [] before [] open_front =
     subst (IsCounted end (before ++ []) (length before)) (sym (value_len_nil end [])) (ended_value before [] (all_of open_front) tt)
 counts end [] before (b ∷ stack) open_front =
-    subst (IsCounted end (before ++ []) (length before)) (sym (value_len_nil end (b ∷ stack)))
+    subst (IsCounted end (before ++ []) (length before)) (sym (value_len_nil end (b ∷ stack) ∙ some_open end b stack))
     (end, refl, subst (λ l. IsUnpaired end l end) (sym (append-nil before)) (pairing.unclosed b stack before open_front))
 counts end (t ∷ ts) before stack open_front =
     subst (IsCounted end (before ++ (t ∷ ts)) (length before)) (sym (value_len_cons end stack t ts))
@@ -285,19 +289,20 @@ counts end (t ∷ ts) before stack open_front =
         let here = subst (λ n. IsCounted end (before ++ (t ∷ ts)) n (value_len end stack' ts)) count there in
         subst (λ (p : Step × List Bracket). IsCounted end (before ++ (t ∷ ts)) (length before) (after_step t.from p.0 (value_len end p.1 ts))) (sym goes)
         (counted_on end (before ++ (t ∷ ts)) (length before) t.from (value_len end stack' ts) here)
+
     by : ((stack' : List Bracket) → IsOpen stack' (before ++ (t ∷ [])) → IsCounted end ((before ++ (t ∷ [])) ++ ts) (length (before ++ (t ∷ []))) (value_len end stack' ts))
         → Does stack t.kind → IsCounted end (before ++ (t ∷ ts)) (length before) (after_step t.from (step_of t.kind stack).0 (value_len end (step_of t.kind stack).1 ts))
-    by more (ends none e stops) =
+    by more (does_end none e stops) =
         subst (λ step. IsCounted end (before ++ (t ∷ ts)) (length before) (after_step t.from step (value_len end (step_of t.kind stack).1 ts))) (sym stops)
         (ended_value before (t ∷ ts) (subst (λ s. all_paired s before) none (all_of open_front)) e)
-    by more (misplaced e bad) =
+    by more (does_wrong e bad) =
         subst (λ step. IsCounted end (before ++ (t ∷ ts)) (length before) (after_step t.from step (value_len end (step_of t.kind stack).1 ts))) (sym bad)
         (t.from, refl, pairing.misplaced stack before t ts open_front e)
-    by more (goes e is) = onward stack is (more stack (open_append open_front (t ∷ []) (pairing.plain (is_inside stack) t [] e (pairing.nothing (is_inside stack)))))
-    by more (opens_round e is) = onward (Round ∷ stack) is (more (Round ∷ stack) (pairing.round stack before t [] open_front e (pairing.nothing true)))
-    by more (opens_square e is) = onward (Square ∷ stack) is (more (Square ∷ stack) (pairing.square stack before t [] open_front e (pairing.nothing true)))
-    by more (closes_round others s e is) = onward others is (more others (closed_round others before t (subst (λ s. IsOpen s before) s open_front) e))
-    by more (closes_square others s e is) = onward others is (more others (closed_square others before t (subst (λ s. IsOpen s before) s open_front) e))
+    by more (does_go e is) = onward stack is (more stack (open_append open_front (t ∷ []) (pairing.plain (is_inside stack) t [] e (pairing.nothing (is_inside stack)))))
+    by more (does_open e is) = onward (Round ∷ stack) is (more (Round ∷ stack) (pairing.round stack before t [] open_front e (pairing.nothing true)))
+    by more (does_open_square e is) = onward (Square ∷ stack) is (more (Square ∷ stack) (pairing.square stack before t [] open_front e (pairing.nothing true)))
+    by more (does_close others s e is) = onward others is (more others (closed_round others before t (subst (λ s. IsOpen s before) s open_front) e))
+    by more (does_close_square others s e is) = onward others is (more others (closed_square others before t (subst (λ s. IsOpen s before) s open_front) e))
 
 pub at_first : (end : ℕ) (ts : List Token) → IsCounted end ts 0 (value_len end [] ts)
 at_first end ts = counts end ts [] [] (pairing.none [] (pairing.nothing false))

@@ -1,5 +1,5 @@
 -- Frames stay in their order when one is put among them.
-use Rattle.std.proofs.Common.{◌≡◌, ℕ, ◌+◌, ◌<◌, List, [], ◌∷◌, length, get_or, suc, refl, sym, ◌∙◌, subst, Bool, true, false, arith}
+use Rattle.std.proofs.Common.{◌≡◌, List, [], ◌∷◌, get_or, suc, refl, sym, subst, Bool, true, false, arith}
 use Rattle.std.specs.Prelude.{All, AllPairs, if◌then◌else◌}
 use Rattle.std.proofs.lemmas.List.Elements.{All-cons, All-head, All-nil, All-tail}
 use Rattle.std.proofs.lemmas.List.Kept.{AllPairs-cons}

@@ -1,5 +1,5 @@
 -- The reading of a style attribute is what the grammar says, or its first fault.
-use Rattle.std.proofs.Common.{◌≡◌, ℕ, List, [], ◌∷◌, refl, ap, sym, ◌∙◌, subst, ◌⊎◌, inl, inr, arith}
+use Rattle.std.proofs.Common.{◌≡◌, ℕ, List, refl, ap, ◌∙◌, subst, ◌⊎◌, inl, inr}
 use Rattle.std.specs.Prelude.{Result, Ok, Err}
 use Rattle.css_token.specs.Reading.{tokens_of}
 use Rattle.css_token.specs.declared.token.Token.{Token}
@@ -7,7 +7,6 @@ use Rattle.sheet_types.specs.declared.declaration.DeclarationParts.{DeclarationP
 use Rattle.sheet_rules.specs.declared.block_kind.BlockKind.{BlockKind}
 use Rattle.sheet_rules.specs.declared.block_kind.BlockKind.TheVariants.{Attribute}
 use Rattle.sheet_rules.specs.declared.fault.CssFault.{CssFault}
-use Rattle.sheet_rules.specs.declared.fault.CssFault.TheVariants.{BadToken}
 use Rattle.sheet_rules.specs.BlockGrammar.{IsBlock, IsFaultyBlock}
 use Rattle.sheet_rules.specs.Blocks.{Found, block_at}
 use Rattle.sheet_rules.specs.Faults.{◌>>=◌}

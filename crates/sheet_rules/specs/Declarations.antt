@@ -10,11 +10,8 @@ use Rattle.token_parts.specs.Keywords.{is_keyword}
 use Rattle.token_parts.specs.Parts.{token_parts_of}
 use Rattle.token_parts.specs.declared.fault.ValueFault.{ValueFault}
 use Rattle.token_parts.specs.declared.fault.ValueFault.TheVariants as value
-use Rattle.value_types.specs.declared.list_value.ListName.{ListName}
 use Rattle.value_types.specs.declared.list_value.ListName.TheVariants as list
-use Rattle.value_types.specs.declared.property.PropertyId.{PropertyId}
 use Rattle.value_types.specs.declared.property.PropertyId.TheVariants as property
-use Rattle.value_types.specs.declared.shorthand.Shorthand.{Shorthand}
 use Rattle.value_types.specs.declared.shorthand.Shorthand.TheVariants as short
 use Rattle.shorthand_text.specs.Declaring.{declared_of}
 use Rattle.shorthand_text.specs.declared.known_name.KnownName.{KnownName}
@@ -25,7 +22,7 @@ use Rattle.sheet_rules.specs.declared.block_kind.BlockKind.TheVariants.{Attribut
 use Rattle.sheet_types.specs.declared.declaration.DeclarationParts.{DeclarationParts}
 use Rattle.sheet_rules.specs.declared.fault.BoundName.TheVariants as bound
 use Rattle.sheet_rules.specs.declared.fault.CssFault.{CssFault}
-use Rattle.sheet_rules.specs.declared.fault.CssFault.TheVariants.{BadToken, UnsupportedValue, Bound, NoMemory}
+use Rattle.sheet_rules.specs.declared.fault.CssFault.TheVariants.{UnsupportedValue, Bound, NoMemory}
 use Rattle.sheet_rules.specs.Scanning.{is_space}
 
 -- ---- importance

@@ -11,7 +11,6 @@ use Rattle.value_types.specs.Properties.{number_of}
 use Rattle.timing_types.specs.Timing.{ease}
 use Rattle.timing_types.specs.declared.easing.Easing.{Easing}
 use Rattle.value_types.specs.declared.frame.Frame.{Frame}
-use Rattle.value_types.specs.declared.list_value.ListName.{ListName}
 use Rattle.value_types.specs.declared.list_value.ListName.TheVariants.{AnimationEasing}
 use Rattle.value_types.specs.declared.list_value.ListValue.{ListValue}
 use Rattle.value_types.specs.declared.list_value.ListValue.TheVariants.{Initial, Easings}

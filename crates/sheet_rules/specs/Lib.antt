@@ -8,3 +8,5 @@ pub mod Frames
 pub mod Keyframes
 pub mod Rules
 pub mod StyleGrammar
+pub mod RuleGrammar
+pub mod SheetGrammar

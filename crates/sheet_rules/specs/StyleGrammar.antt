@@ -1,5 +1,5 @@
 -- Style attributes by the grammar (CSS Style Attributes, section 3, "Syntax and Parsing"), and the first fault of one.
-use Rattle.std.specs.Prelude.{◌≡◌, ℕ, List, [], Ok, Err}
+use Rattle.std.specs.Prelude.{◌≡◌, ℕ, List, Ok, Err}
 use Rattle.css_token.specs.Reading.{tokens_of}
 use Rattle.css_token.specs.declared.token.Token.{Token}
 use Rattle.sheet_types.specs.declared.declaration.DeclarationParts.{DeclarationParts}

@@ -128,7 +128,7 @@ fn frames_at<'a>(
 {
     let mut rest = tokens;
     let mut left = MOST;
-    for blocks in 0..65u32 {
+    for done in 0..65u32 {
         let next = after_spaces(rest);
         if let Some(others) = after_close(next) {
             return Ok(others);

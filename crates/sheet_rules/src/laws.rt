@@ -1,6 +1,7 @@
 //! What holds of texts by the definitions alone.
-ghost use Rattle.std.specs.Prelude.{◌≡◌, ◌↔◌, ◌⊎◌, ⊥, ℕ, List, [], Ok, Err};
+ghost use Rattle.std.specs.Prelude.{◌≡◌, ◌↔◌, ◌⊎◌, ℕ, List, [], Ok, Err};
 ghost use Rattle.css_token.specs.declared.token.Token.{Token};
+ghost use Rattle.sheet_types.specs.Sheets.{SheetRules};
 ghost use Rattle.sheet_types.specs.declared.declaration.DeclarationParts.{DeclarationParts};
 ghost use Rattle.sheet_rules.specs.declared.block_kind.BlockKind.{BlockKind};
 ghost use Rattle.sheet_rules.specs.declared.fault.CssFault.{CssFault};
@@ -8,8 +9,9 @@ ghost use Rattle.sheet_rules.specs.declared.fault.CssFault.TheVariants.{BadToken
 ghost use Rattle.sheet_rules.specs.BlockGrammar.{IsBlock, IsFaultyBlock};
 ghost use Rattle.sheet_rules.specs.Blocks.{block_at};
 ghost use Rattle.sheet_rules.specs.Pairing.{IsUnpaired, IsValue};
-ghost use Rattle.sheet_rules.specs.Rules.{declarations_in};
+ghost use Rattle.sheet_rules.specs.Rules.{declarations_in, sheet_of};
 ghost use Rattle.sheet_rules.specs.Scanning.{value_len};
+ghost use Rattle.sheet_rules.specs.SheetGrammar.{IsFaultySheet, IsSheet};
 ghost use Rattle.sheet_rules.specs.StyleGrammar.{IsFaultyStyle, IsStyle};
 
 /// The count of a value's tokens is told exactly where its brackets pair up to its end, and else the first token
@@ -39,4 +41,18 @@ pub fn a_style_or_a_fault()
     ensures never_both { (text : List ℕ) (ds : List DeclarationParts) (fault : CssFault) → IsStyle text ds → IsFaultyStyle text fault → ⊥ }
     ensures one_style { (text : List ℕ) (ds others : List DeclarationParts) → IsStyle text ds → IsStyle text others → ds ≡ others }
     ensures one_fault { (text : List ℕ) (fault other : CssFault) → IsFaultyStyle text fault → IsFaultyStyle text other → fault ≡ other }
+{}
+
+/// The reading of a sheet is what the grammar says of it, and its first fault exactly where it is none.
+pub fn sheet_reading_is_exact()
+    ensures sheet { (text : List ℕ) (sheet : SheetRules) → IsSheet text sheet ↔ (sheet_of text ≡ Ok sheet) }
+    ensures fault { (text : List ℕ) (fault : CssFault) → IsFaultySheet text fault ↔ (sheet_of text ≡ Err fault) }
+{}
+
+/// A text is a sheet or has a first fault, and never both; and it has one of either kind.
+pub fn a_sheet_or_a_fault()
+    ensures either { (text : List ℕ) → ((sheet : SheetRules) × IsSheet text sheet) ⊎ ((fault : CssFault) × IsFaultySheet text fault) }
+    ensures never_both { (text : List ℕ) (sheet : SheetRules) (fault : CssFault) → IsSheet text sheet → IsFaultySheet text fault → ⊥ }
+    ensures one_sheet { (text : List ℕ) (sheet other : SheetRules) → IsSheet text sheet → IsSheet text other → sheet ≡ other }
+    ensures one_fault { (text : List ℕ) (fault other : CssFault) → IsFaultySheet text fault → IsFaultySheet text other → fault ≡ other }
 {}

@@ -16,7 +16,10 @@ mod sheet_reader;
 
 pub use block_kind::BlockKind;
 pub use fault::{BoundName, CssFault};
-pub use laws::{a_style_or_a_fault, block_reading_is_exact, style_reading_is_exact, values_pair};
+pub use laws::{
+    a_sheet_or_a_fault, a_style_or_a_fault, block_reading_is_exact, sheet_reading_is_exact,
+    style_reading_is_exact, values_pair,
+};
 pub use sheet_reader::{read_sheet, read_style};
 pub use sheet_types::{
     Declaration, DeclarationParts, KeyframesRule, Rule, SelectorPlace, Sheet, Sheets,

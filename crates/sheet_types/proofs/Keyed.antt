@@ -1,12 +1,12 @@
 -- The candidates under a key are those selectors that have it.
-use Rattle.std.proofs.Common.{◌≡◌, ℕ, zero, suc, ◌+◌, ◌<◌, List, [], ◌∷◌, ◌++◌, Bool, true, false, length, get_or, refl, ap, sym, ◌∙◌, subst, arith, ◌⊎◌, inl, inr, ⊎_elim}
+use Rattle.std.proofs.Common.{◌≡◌, ℕ, zero, suc, ◌+◌, List, [], ◌∷◌, Bool, true, false, get_or, refl, ap, sym, ◌∙◌, subst, arith, ⊎_elim}
 use Rattle.std.specs.Prelude.{Contains, slice_get, Option, None, Some}
 use Rattle.std.specs.Option.{option_map_or}
 use Rattle.std.proofs.lemmas.List.Elements.{Contains-append_cases, Contains-append_left, Contains-append_right}
 use Rattle.selectors_mini.specs.Compounds.{CompoundSelector}
 use Rattle.sheet_types.specs.declared.rule.Rule.{Rule}
 use Rattle.sheet_types.specs.declared.selector_place.SelectorPlace.{SelectorPlace}
-use Rattle.sheet_types.specs.Candidates.{IsKeyed, SelectorKey, candidates_from, candidates_of, has_key, place_if, places_in, selector_at, selector_place}
+use Rattle.sheet_types.specs.Candidates.{IsKeyed, SelectorKey, candidates_from, candidates_of, has_key, place_if, places_in, selector_place}
 
 -- ---- one place
 

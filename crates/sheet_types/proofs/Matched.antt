@@ -1,5 +1,5 @@
 -- A selector that matches an element is a candidate under a key that the element has.
-use Rattle.std.proofs.Common.{◌≡◌, ℕ, ◌+◌, ◌-◌, suc, zero, List, [], ◌∷◌, ◌++◌, Bool, true, length, refl, ap, sym, ◌∙◌, subst, arith}
+use Rattle.std.proofs.Common.{◌≡◌, ℕ, ◌-◌, List, [], ◌∷◌, ◌++◌, true, length, refl, ap, sym, ◌∙◌, arith}
 use Rattle.std.specs.Prelude.{Contains, IfSome, slice_get, reverse, All, Option, None, Some}
 use Rattle.std.proofs.lemmas.List.{length-append, reverse-append, reverse-reverse}
 use Rattle.std.proofs.lemmas.List.Elements.{All-head}

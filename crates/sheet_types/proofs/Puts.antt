@@ -1,6 +1,6 @@
 -- An index of selectors, where a place is put.
-use Rattle.std.proofs.Common.{◌≡◌, ℕ, suc, ◌+◌, ◌<◌, ◌≤◌, List, [], ◌∷◌, ◌++◌, Bool, true, false, length, get_or, drop, drop-cons, add-one, append_assoc, refl, ap, sym, ◌∙◌, subst, arith}
-use Rattle.std.specs.Prelude.{Option, None, Some}
+use Rattle.std.proofs.Common.{◌≡◌, ℕ, suc, ◌+◌, ◌<◌, ◌≤◌, List, [], ◌∷◌, ◌++◌, length, get_or, drop, drop-cons, add-one, append_assoc, refl, ap, sym, ◌∙◌, subst, arith}
+use Rattle.std.specs.Prelude.{Option, Some}
 use Rattle.std.specs.Global.{Vec}
 use Rattle.std.proofs.lemmas.List.{append-nil}
 use Rattle.selectors_mini.specs.Compounds.{CompoundSelector, subject_of}
@@ -9,7 +9,7 @@ use Rattle.sheet_types.specs.declared.rule.Rule.{Rule}
 use Rattle.sheet_types.specs.declared.selector_index.SelectorIndex.{SelectorIndex}
 use Rattle.sheet_types.specs.declared.selector_place.SelectorPlace.{SelectorPlace}
 use Rattle.sheet_types.specs.Candidates.{ById, ByClass, ByType, ForAny, SelectorKey, candidates_from, class_key, has_key, id_key, key_of, place_if, places_in, same_key, selector_place, type_key}
-use Rattle.sheet_types.specs.Index.{HoldsNothing, IsEmptyIndex, IsPut, IsPutUnder, held, held_under}
+use Rattle.sheet_types.specs.Index.{HoldsNothing, IsEmptyIndex, IsPut, IsPutUnder, held}
 
 -- ---- a place
 

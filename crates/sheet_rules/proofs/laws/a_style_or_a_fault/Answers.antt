@@ -1,4 +1,3 @@
-use Rattle.std.proofs.Common.{◌≡◌}
 use Rattle.sheet_rules.proofs.StyleReadings.{a_style_or_fault, faulty_style_is_read, style_is_read}
 use Rattle.sheet_rules.proofs.laws.a_style_or_a_fault.Goals as goal
 

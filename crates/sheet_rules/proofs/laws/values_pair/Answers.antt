@@ -9,9 +9,9 @@ returns-clause-value c = λ end ts n. (value_is_counted end ts n, counted_is_val
 
 pub returns-clause-fault : goal.returns-clause-fault
 returns-clause-fault c = λ end ts at. (
-    (λ h. unpaired_is_told end h),
-    (λ e.
-        let told = told_is_unpaired end ts (BadToken at) e in
-        let same : at ≡ told.0 = (let is = told.1 in cc) in
-        subst (IsUnpaired end ts) (sym same) told.2),
+  (λ h. unpaired_is_told end h),
+  (λ e.
+      let told = told_is_unpaired end ts (BadToken at) e in
+      let same : at ≡ told.0 = (let is = told.1 in cc) in
+      subst (IsUnpaired end ts) (sym same) told.2),
 )

@@ -1,4 +1,3 @@
-use Rattle.std.proofs.Common.{◌-◌}
 use Rattle.sheet_types.specs.Sheets.{sheet_rules}
 use Rattle.sheet_rules.proofs.SheetLemmas.{IsReading}
 use Rattle.sheet_rules.proofs.sheet_reader.sheet_at.Given as goal

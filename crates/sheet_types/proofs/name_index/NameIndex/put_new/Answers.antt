@@ -1,6 +1,5 @@
-use Rattle.std.proofs.Common.{◌≡◌, ◌∷◌, [], ◌++◌, ap, sym, ◌∙◌, length, arith, subst}
+use Rattle.std.proofs.Common.{◌∷◌, [], ◌++◌, ap, sym, ◌∙◌, length, arith}
 use Rattle.std.proofs.lemmas.List.{length-append}
-use Rattle.std.specs.Global.{Vec}
 use Rattle.sheet_types.specs.Index.{held_in}
 use Rattle.sheet_types.proofs.NameLists.{added_key, put_absent}
 use Rattle.sheet_types.proofs.name_index.NameIndex.put_new.Goals as goal

@@ -1,8 +1,6 @@
-use Rattle.std.proofs.Common.{◌≡◌, ap, sym, ◌∙◌, subst}
+use Rattle.std.proofs.Common.{sym, subst}
 use Rattle.std.proofs.lemmas.Result.{on_ok_weaker}
-use Rattle.sheet_types.specs.declared.selector_index.SelectorIndex.{SelectorIndex}
-use Rattle.sheet_types.specs.Candidates.{ById, ByClass, ByType, ForAny, SelectorKey, key_of}
-use Rattle.sheet_types.specs.Index.{IsPut, IsPutUnder}
+use Rattle.sheet_types.specs.Index.{IsPut}
 use Rattle.sheet_types.proofs.Puts.{class_is, id_is, put_any, put_class, put_id, put_type, type_is}
 use Rattle.sheet_types.proofs.selector_index.SelectorIndex.put.Goals as goal
 
