@@ -1,5 +1,6 @@
 -- Sheets as they are kept (CSS Syntax 3, "stylesheet"), and those of a document.
-use Rattle.std.specs.Prelude.{ℕ, ◌-◌, List, [], reverse, replicate, slice_index_or, find, Option, None}
+use Rattle.std.specs.Prelude.{ℕ, ◌-◌, List, [], find, fold, replicate, reverse, slice_index_or, Option, None, Some}
+use Rattle.std.specs.Option.{option_or}
 use Rattle.std.specs.Str.{bytes_eq}
 use Rattle.sheet_types.specs.declared.rule.KeyframesRule.{KeyframesRule}
 use Rattle.sheet_types.specs.declared.rule.Rule.{Rule}

@@ -92,7 +92,7 @@ fn later_keyframes<'a>(
     found: Option<&'a KeyframesRule>,
     sheet: &'a Option<Sheet>,
 ) -> Option<&'a KeyframesRule>
-    ensures { option_copied result ≡ later_keyframes name.now (option_copied found) sheet.now }
+    ensures { option_copied result ≡ later_keyframes name.now (option_copied found.entry) sheet.now }
 {
     match sheet {
         None => found,

@@ -569,5 +569,16 @@ fn the_last_keyframes_of_a_name_win(rt: HostRuntime) -> Result<(), Fail> {
     let place = sheet.keyframes_named(b"k").map(|rule| rule.place);
     assert!(rt; place == Some(2));
     assert!(rt; sheet.keyframes_named(b"i").is_none());
+    let mut sheets = Sheets::empty();
+    sheets.put(3, Some(sheet));
+    sheets.put(
+        9,
+        Some(read_sheet(rt.alloc(), "a { } b { } c { } d { } @keyframes j { }")?),
+    );
+    let place = sheets.keyframes_named(b"k").map(|rule| rule.place);
+    assert!(rt; place == Some(2));
+    let place = sheets.keyframes_named(b"j").map(|rule| rule.place);
+    assert!(rt; place == Some(4));
+    assert!(rt; sheets.keyframes_named(b"i").is_none());
     Ok(())
 }
