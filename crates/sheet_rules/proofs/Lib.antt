@@ -9,6 +9,7 @@ pub mod OffsetLemmas
 pub mod FrameLemmas
 pub mod FrameOrder
 pub mod PutFrames
+pub mod LaterFrames
 pub mod KeyframesLemmas
 pub mod KeyframeReadings
 pub mod KeyframesReadings

@@ -89,7 +89,8 @@ abbrev pub declaration_of : ℕ → Bool → Longhand → DeclarationParts
 declaration_of place important longhand = record { longhand = longhand; important = important; place = place }
 
 -- all longhands are declared with one importance at one place
-abbrev pub declarations_of : KnownName → ℕ → ℕ → Bool → Result (List Longhand) ValueFault → Result (List DeclarationParts) CssFault
+abbrev pub declarations_of : KnownName → ℕ → ℕ → Bool → Result (List Longhand) ValueFault
+    → Result (List DeclarationParts) CssFault
 declarations_of name at place important (Ok longhands) = Ok (map (declaration_of place important) longhands)
 declarations_of name at place important (Err fault) = Err (fault_at name at fault)
 
@@ -97,7 +98,8 @@ declarations_of name at place important (Err fault) = Err (fault_at name at faul
 abbrev pub judged_as : BlockKind → ℕ → ℕ → List ℕ → List Token → KnownName → Result (List DeclarationParts) CssFault
 judged_as block place at text tokens name =
     if is_dropped block name (ends_important text tokens) then Ok []
-    else declarations_of name at place (ends_important text tokens) (declared_of name (token_parts_of text (unmarked text tokens)))
+    else declarations_of name at place (ends_important text tokens)
+    (declared_of name (token_parts_of text (unmarked text tokens)))
 
 -- one of an unknown name is dropped
 unfoldable pub judged : BlockKind → ℕ → ℕ → List ℕ → List Token → Option KnownName → Result (List DeclarationParts) CssFault

@@ -33,10 +33,13 @@ is_plain inside _ = true
 -- the brackets of the tokens pair; whether they stand inside of brackets themselves
 pub data IsPaired : Bool → List Token → Type 0 where
   nothing : (inside : Bool) → IsPaired inside []
-  plain : (inside : Bool) (t : Token) (ts : List Token) → is_plain inside t.kind ≡ true → IsPaired inside ts → IsPaired inside (t ∷ ts)
-  round : (inside : Bool) (t : Token) (within : List Token) (u : Token) (ts : List Token) → opens_round t.kind ≡ true → IsPaired true within → u.kind ≡ kind.RoundClose
+  plain : (inside : Bool) (t : Token) (ts : List Token) → is_plain inside t.kind ≡ true → IsPaired inside ts
+      → IsPaired inside (t ∷ ts)
+  round : (inside : Bool) (t : Token) (within : List Token) (u : Token) (ts : List Token) → opens_round t.kind ≡ true
+      → IsPaired true within → u.kind ≡ kind.RoundClose
       → IsPaired inside ts → IsPaired inside (t ∷ (within ++ (u ∷ ts)))
-  square : (inside : Bool) (t : Token) (within : List Token) (u : Token) (ts : List Token) → t.kind ≡ kind.SquareOpen → IsPaired true within → u.kind ≡ kind.SquareClose
+  square : (inside : Bool) (t : Token) (within : List Token) (u : Token) (ts : List Token) → t.kind ≡ kind.SquareOpen
+      → IsPaired true within → u.kind ≡ kind.SquareClose
       → IsPaired inside ts → IsPaired inside (t ∷ (within ++ (u ∷ ts)))
 
 -- nothing, or a token that ends the value before it
@@ -55,12 +58,15 @@ pub record IsValue (ts : List Token) (n : ℕ) : Type 0 where
 -- the front of a value, in which these brackets are still open, the last one first
 pub data IsOpen : List Bracket → List Token → Type 0 where
   none : (ts : List Token) → IsPaired false ts → IsOpen [] ts
-  round : (stack : List Bracket) (ts : List Token) (t : Token) (within : List Token) → IsOpen stack ts → opens_round t.kind ≡ true → IsPaired true within
+  round : (stack : List Bracket) (ts : List Token) (t : Token) (within : List Token) → IsOpen stack ts
+      → opens_round t.kind ≡ true → IsPaired true within
       → IsOpen (Round ∷ stack) (ts ++ (t ∷ within))
-  square : (stack : List Bracket) (ts : List Token) (t : Token) (within : List Token) → IsOpen stack ts → t.kind ≡ kind.SquareOpen → IsPaired true within
+  square : (stack : List Bracket) (ts : List Token) (t : Token) (within : List Token) → IsOpen stack ts
+      → t.kind ≡ kind.SquareOpen → IsPaired true within
       → IsOpen (Square ∷ stack) (ts ++ (t ∷ within))
 
--- a token that may not follow where these brackets are open: `{`, a `}` inside of brackets, and a bracket that closes none or another than the last one
+-- a token that may not follow where these brackets are open: `{`, a `}` inside of brackets, and a bracket that closes none or
+-- another than the last one
 abbrev pub is_misplaced : List Bracket → Kind → Bool
 is_misplaced stack kind.CurlyOpen = true
 is_misplaced (b ∷ stack) kind.CurlyClose = true
@@ -70,8 +76,10 @@ is_misplaced [] kind.SquareClose = true
 is_misplaced (Round ∷ stack) kind.SquareClose = true
 is_misplaced stack _ = false
 
--- the tokens begin with no value: the place is that of the first token that may not follow, or the end of the text where a bracket stays open
+-- the tokens begin with no value: the place is that of the first token that may not follow, or the end of the text where a
+-- bracket stays open
 pub data IsUnpaired (end : ℕ) : List Token → ℕ → Type 0 where
-  misplaced : (stack : List Bracket) (front : List Token) (t : Token) (rest : List Token) → IsOpen stack front → is_misplaced stack t.kind ≡ true
+  misplaced : (stack : List Bracket) (front : List Token) (t : Token) (rest : List Token) → IsOpen stack front
+      → is_misplaced stack t.kind ≡ true
       → IsUnpaired end (front ++ (t ∷ rest)) t.from
   unclosed : (b : Bracket) (stack : List Bracket) (ts : List Token) → IsOpen (b ∷ stack) ts → IsUnpaired end ts end

@@ -76,7 +76,8 @@ is_at_word _ = false
 unfoldable pub item_at : List ℕ → ℕ → SheetRules → Token → List Token → RulesFound
 item_at text place sheet t ts =
     if is_at_word t.kind then
-    (if is_keyword (bytes_of text t) (codes "@keyframes") then with_keyframes sheet (keyframes_after sheet.keyframes place (keyframes_at text t.from (drop 1 ts)))
+    (if is_keyword (bytes_of text t) (codes "@keyframes") then
+    with_keyframes sheet (keyframes_after sheet.keyframes place (keyframes_at text t.from (drop 1 ts)))
     else Err (UnsupportedRule t.from))
     else with_style sheet (rule_after sheet.rules (rule_at text place t.from ts))
 

@@ -18,4 +18,5 @@ pub record IsStyle (text : List ℕ) (declared : List DeclarationParts) : Type 0
 -- the first fault of a text that is none: of its tokens, wherever the bad one stands, else of its declarations from left to right
 pub data IsFaultyStyle (text : List ℕ) : CssFault → Type 0 where
   bad_token : (at : ℕ) → tokens_of text ≡ Err at → IsFaultyStyle text (BadToken at)
-  faulty : (tokens : List Token) (fault : CssFault) → tokens_of text ≡ Ok tokens → IsFaultyBlock Attribute text 0 tokens fault → IsFaultyStyle text fault
+  faulty : (tokens : List Token) (fault : CssFault) → tokens_of text ≡ Ok tokens → IsFaultyBlock Attribute text 0 tokens fault
+      → IsFaultyStyle text fault

@@ -90,7 +90,8 @@ fn frame_at<'a>(
     requires short { length text.now ≤ 67108864 }
     requires within { All (IsTokenOf text.now) tokens.now }
     requires frames { IsFrames frames.old.items }
-    ensures reading { Gives (λ next. (frames.new.items, next.0, next.1.now)) result (frame_at text.now left frames.old.items tokens.now) }
+    ensures reading { Gives (λ next. (frames.new.items, next.0, next.1.now)) result
+        (frame_at text.now left frames.old.items tokens.now) }
     ensures within { IfOk result (λ next. All (IsTokenOf text.now) next.1.now) }
     ensures frames { OnOk result (IsFrames frames.new.items) }
 {
@@ -122,7 +123,8 @@ fn frames_at<'a>(
     requires short { length text.now ≤ 67108864 }
     requires within { All (IsTokenOf text.now) tokens.now }
     requires frames { IsFrames frames.old.items }
-    ensures reading { Gives (λ rest. (frames.new.items, rest.now)) result (frames_at text.now 65 64 frames.old.items tokens.now) }
+    ensures reading { Gives (λ rest. (frames.new.items, rest.now)) result
+        (frames_at text.now 65 64 frames.old.items tokens.now) }
     ensures within { IfOk result (λ rest. All (IsTokenOf text.now) rest.now) }
     ensures frames { OnOk result (IsFrames frames.new.items) }
 {
@@ -159,7 +161,8 @@ pub(crate) fn keyframes_at<'a>(
 ) -> Result<&'a [Token], CssFault>
     requires short { length text.now ≤ 67108864 }
     requires within { All (IsTokenOf text.now) tokens.now }
-    ensures reading { Gives (λ rest. (found.new.items, rest.now)) result (keyframes_after found.old.items place (keyframes_at text.now at tokens.now)) }
+    ensures reading { Gives (λ rest. (found.new.items, rest.now)) result
+        (keyframes_after found.old.items place (keyframes_at text.now at tokens.now)) }
     ensures within { IfOk result (λ rest. All (IsTokenOf text.now) rest.now) }
 {
     let end = text.len() as u32;

@@ -17,8 +17,8 @@ mod sheet_reader;
 pub use block_kind::BlockKind;
 pub use fault::{BoundName, CssFault};
 pub use laws::{
-    a_sheet_or_a_fault, a_style_or_a_fault, block_reading_is_exact, sheet_reading_is_exact,
-    style_reading_is_exact, values_pair,
+    a_sheet_or_a_fault, a_style_or_a_fault, block_reading_is_exact, later_frames_win,
+    sheet_reading_is_exact, style_reading_is_exact, values_pair,
 };
 pub use sheet_reader::{read_sheet, read_style};
 pub use sheet_types::{

@@ -50,7 +50,8 @@ fn rule_at<'a>(
 ) -> Result<&'a [Token], CssFault>
     requires short { length text.now ≤ 67108864 }
     requires within { All (IsTokenOf text.now) tokens.now }
-    ensures reading { Gives (λ rest. (found.new.items, rest.now)) result (rule_after found.old.items (rule_at text.now place at tokens.now)) }
+    ensures reading { Gives (λ rest. (found.new.items, rest.now)) result
+        (rule_after found.old.items (rule_at text.now place at tokens.now)) }
     ensures within { IfOk result (λ rest. All (IsTokenOf text.now) rest.now) }
 {
     let end = text.len() as u32;

@@ -1,4 +1,5 @@
--- Which selectors of a sheet may match an element, by what their last compounds name (Selectors 4, section 3.1, "compound selector").
+-- Which selectors of a sheet may match an element, by what their last compounds name (Selectors 4, section 3.1, "compound
+-- selector").
 use Rattle.std.specs.Prelude.{◌≡◌, ℕ, ◌+◌, Bool, true, false, List, [], ◌∷◌, ◌++◌, Contains, IsTrue, slice_get, Option, None, Some}
 use Rattle.std.specs.Option.{option_map_or}
 use Rattle.std.specs.Str.{bytes_eq}

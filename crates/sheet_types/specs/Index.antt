@@ -31,7 +31,8 @@ HoldsNothing index = (name : List ℕ) → held_under index name ≡ []
 
 -- the place was put under the name, after those that stood there, and under no other
 abbrev pub IsPutUnder : NameIndex → List ℕ → SelectorPlace → NameIndex → Type 0
-IsPutUnder before name place after = (other : List ℕ) → held_under after other ≡ held_under before other ++ place_if (bytes_eq other name) place
+IsPutUnder before name place after = (other : List ℕ)
+    → held_under after other ≡ held_under before other ++ place_if (bytes_eq other name) place
 
 -- ---- by key
 

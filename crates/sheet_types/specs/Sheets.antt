@@ -24,7 +24,8 @@ no_sheets = replicate 16 None
 abbrev pub sheet_at_place : List (Option SheetRules) → ℕ → Option SheetRules
 sheet_at_place sheets k = slice_index_or sheets (k - 1) None
 
--- the last keyframes rule of the name (CSS Animations 1, section 3, "if multiple @keyframes rules are defined with the same name")
+-- the last keyframes rule of the name (CSS Animations 1, section 3, "if multiple @keyframes rules are defined with the same
+-- name")
 abbrev pub keyframes_named : List ℕ → List KeyframesRule → Option KeyframesRule
 keyframes_named name rules = find (λ rule. bytes_eq rule.name name) (reverse rules)
 
