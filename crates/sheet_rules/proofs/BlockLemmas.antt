@@ -1,10 +1,10 @@
 -- How a block is read declaration by declaration.
-use Rattle.std.proofs.Common.{◌≡◌, ℕ, ◌+◌, ◌-◌, ◌≤◌, ◌<◌, zero, suc, inl, inr, List, [], ◌++◌, append_assoc, append-nil, length, refl, ap, sym, ◌∙◌, subst, arith}
+use Rattle.std.proofs.Common.{◌≡◌, ℕ, ◌+◌, ◌-◌, ◌≤◌, ◌<◌, zero, suc, inl, inr, List, [], ◌++◌, append_assoc, length, refl, ap, sym, ◌∙◌, arith}
 use Rattle.std.specs.Prelude.{None, Some, Ok, Err}
 use Rattle.std.proofs.lemmas.Bool.{cases_lt}
 use Rattle.css_token.specs.declared.token.Token.{Token}
 use Rattle.sheet_rules.specs.declared.block_kind.BlockKind.{BlockKind}
-use Rattle.sheet_rules.specs.declared.declaration.DeclarationParts.{DeclarationParts}
+use Rattle.sheet_types.specs.declared.declaration.DeclarationParts.{DeclarationParts}
 use Rattle.sheet_rules.specs.declared.fault.BoundName.TheVariants as bound
 use Rattle.sheet_rules.specs.declared.fault.CssFault.{CssFault}
 use Rattle.sheet_rules.specs.declared.fault.CssFault.TheVariants.{Bound}
@@ -18,13 +18,13 @@ pub record IsReading (block : BlockKind) (text : List ℕ) (before : List Declar
   pub lie : Lie text rest
   pub reading : with_front found (block_at block text (64 - left) left rest) ≡ with_front before (block_at block text 0 64 tokens)
 
-block_none : (block : BlockKind) (text : List ℕ) (place : ℕ) (rest : List Token)
+pub block_none : (block : BlockKind) (text : List ℕ) (place : ℕ) (rest : List Token)
     → block_at block text place zero rest
     ≡ part_at block (length text) (after_separators rest) >>= (λ part. ended_or part.0 part.1 (λ name. Err (Bound bound.Declarations name.from)))
 unfolding block_at
 block_none block text place rest = refl
 
-block_more : (block : BlockKind) (text : List ℕ) (place left : ℕ) (rest : List Token)
+pub block_more : (block : BlockKind) (text : List ℕ) (place left : ℕ) (rest : List Token)
     → block_at block text place (suc left) rest
     ≡ part_at block (length text) (after_separators rest) >>= (λ part. ended_or part.0 part.1 (λ name.
     declaration_at block text place name part.1 >>= (λ first. with_front first.0 (block_at block text (place + 1) left first.1))))

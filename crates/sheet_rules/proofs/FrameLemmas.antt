@@ -1,5 +1,5 @@
 -- Frames that are put in their places.
-use Rattle.std.proofs.Common.{◌≡◌, ℕ, ◌+◌, ◌<◌, ◌≤◌, suc, cond, arith, List, [], ◌∷◌, length, refl, ap, sym, ◌∙◌, Bool, true, false, not}
+use Rattle.std.proofs.Common.{◌≡◌, ℕ, ◌+◌, suc, cond, arith, List, [], ◌∷◌, refl, ap, sym, ◌∙◌, Bool, true, false, not}
 use Rattle.std.specs.Prelude.{insert, set, if◌then◌else◌}
 use Rattle.std.specs.List.{prefix_len}
 use Rattle.value_types.specs.declared.frame.Frame.{Frame}

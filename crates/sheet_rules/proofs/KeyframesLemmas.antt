@@ -1,6 +1,6 @@
 -- How the frames of a rule are read block by block.
 use Rattle.std.proofs.Common.{◌≡◌, ℕ, ◌+◌, ◌-◌, ◌<◌, zero, suc, List, length, refl, ap, sym, ◌∙◌, arith}
-use Rattle.std.specs.Prelude.{Option, None, Some, Result, Ok, Err}
+use Rattle.std.specs.Prelude.{None, Some, Ok, Err}
 use Rattle.css_token.specs.declared.token.Token.{Token}
 use Rattle.value_types.specs.Keyframes.{IsFrames}
 use Rattle.value_types.specs.declared.frame.Frame.{Frame}
@@ -17,7 +17,7 @@ pub record AreReading (text : List ℕ) (before : List Frame) (tokens : List Tok
   pub ordered : IsFrames frames
   pub reading : frames_at text blocks left frames rest ≡ frames_at text 65 64 before tokens
 
-frames_more : (text : List ℕ) (blocks left : ℕ) (frames : List Frame) (rest : List Token) → frames_at text (suc blocks) left frames rest
+pub frames_more : (text : List ℕ) (blocks left : ℕ) (frames : List Frame) (rest : List Token) → frames_at text (suc blocks) left frames rest
     ≡ closed_or (after_close (after_spaces rest)) frames (frame_at text left frames (after_spaces rest) >>= (λ next. frames_at text blocks next.1 next.0 next.2))
 unfolding frames_at
 frames_more text blocks left frames rest = refl

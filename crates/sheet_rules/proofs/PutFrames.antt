@@ -1,9 +1,9 @@
 -- Frames stay in their order when one is put among them.
-use Rattle.std.proofs.Common.{◌≡◌, ℕ, ◌+◌, ◌<◌, List, [], ◌∷◌, length, get_or, suc, refl, sym, ◌∙◌, subst, Bool, true, false, arith}
+use Rattle.std.proofs.Common.{◌≡◌, List, [], ◌∷◌, get_or, suc, refl, sym, subst, Bool, true, false, arith}
 use Rattle.std.specs.Prelude.{All, AllPairs, if◌then◌else◌}
 use Rattle.std.proofs.lemmas.List.Elements.{All-cons, All-head, All-nil, All-tail}
 use Rattle.std.proofs.lemmas.List.Kept.{AllPairs-cons}
-use Rattle.value_types.specs.Keyframes.{ComesBefore, IsFrame, IsFrames}
+use Rattle.value_types.specs.Keyframes.{IsFrameBefore, IsFrame, IsFrames}
 use Rattle.value_types.specs.declared.frame.Frame.{Frame}
 use Rattle.sheet_rules.specs.Frames.{put_frame, stands_before}
 use Rattle.sheet_rules.proofs.FrameLemmas.{put_cons, put_nil}
@@ -30,22 +30,22 @@ all_put P f [] p h = subst (All P) (sym (put_nil f)) (All-cons P f [] p (All-nil
 all_put P f (g ∷ gs) p h =
     subst (All P) (sym (put_cons f g gs)) (chosen_all P f g gs (stands_before g f) (stands_before f g) p h (all_put P f gs p (All-tail P g gs h)))
 
-chosen_ordered : (f g : Frame) (gs : List Frame) (a b : Bool) → stands_before g f ≡ a → stands_before f g ≡ b → AllPairs ComesBefore (g ∷ gs)
-    → AllPairs ComesBefore (put_frame f gs) → AllPairs ComesBefore (if a then g ∷ put_frame f gs else (if b then f ∷ g ∷ gs else f ∷ gs))
+chosen_ordered : (f g : Frame) (gs : List Frame) (a b : Bool) → stands_before g f ≡ a → stands_before f g ≡ b → AllPairs IsFrameBefore (g ∷ gs)
+    → AllPairs IsFrameBefore (put_frame f gs) → AllPairs IsFrameBefore (if a then g ∷ put_frame f gs else (if b then f ∷ g ∷ gs else f ∷ gs))
 chosen_ordered f g gs true b e k h others =
-    AllPairs-cons ComesBefore g (put_frame f gs) (all_put (ComesBefore g) f gs (stands g f e) (pairs_head ComesBefore g gs h)) others
+    AllPairs-cons IsFrameBefore g (put_frame f gs) (all_put (IsFrameBefore g) f gs (stands g f e) (pairs_head IsFrameBefore g gs h)) others
 chosen_ordered f g gs false true e k h others =
-    let later = all_mapped (ComesBefore g) (ComesBefore f) gs (λ x q. stands_after f g x (stands f g k) q) (pairs_head ComesBefore g gs h) in
-    AllPairs-cons ComesBefore f (g ∷ gs) (All-cons (ComesBefore f) g gs (stands f g k) later) h
+    let later = all_mapped (IsFrameBefore g) (IsFrameBefore f) gs (λ x q. stands_after f g x (stands f g k) q) (pairs_head IsFrameBefore g gs h) in
+    AllPairs-cons IsFrameBefore f (g ∷ gs) (All-cons (IsFrameBefore f) g gs (stands f g k) later) h
 chosen_ordered f g gs false false e k h others =
-    let later = all_mapped (ComesBefore g) (ComesBefore f) gs (λ x q. moved f g x (same_place f g k e) q) (pairs_head ComesBefore g gs h) in
-    AllPairs-cons ComesBefore f gs later (pairs_tail ComesBefore g gs h)
+    let later = all_mapped (IsFrameBefore g) (IsFrameBefore f) gs (λ x q. moved f g x (same_place f g k e) q) (pairs_head IsFrameBefore g gs h) in
+    AllPairs-cons IsFrameBefore f gs later (pairs_tail IsFrameBefore g gs h)
 
-ordered_put : (f : Frame) (gs : List Frame) → AllPairs ComesBefore gs → AllPairs ComesBefore (put_frame f gs)
-ordered_put f [] h = subst (AllPairs ComesBefore) (sym (put_nil f)) (AllPairs-cons ComesBefore f [] (All-nil (ComesBefore f)) h)
+ordered_put : (f : Frame) (gs : List Frame) → AllPairs IsFrameBefore gs → AllPairs IsFrameBefore (put_frame f gs)
+ordered_put f [] h = subst (AllPairs IsFrameBefore) (sym (put_nil f)) (AllPairs-cons IsFrameBefore f [] (All-nil (IsFrameBefore f)) h)
 ordered_put f (g ∷ gs) h =
-    subst (AllPairs ComesBefore) (sym (put_cons f g gs))
-    (chosen_ordered f g gs (stands_before g f) (stands_before f g) refl refl h (ordered_put f gs (pairs_tail ComesBefore g gs h)))
+    subst (AllPairs IsFrameBefore) (sym (put_cons f g gs))
+    (chosen_ordered f g gs (stands_before g f) (stands_before f g) refl refl h (ordered_put f gs (pairs_tail IsFrameBefore g gs h)))
 
 -- frames with one more are frames
 pub put_frames : (f : Frame) (gs : List Frame) → IsFrame f → IsFrames gs → IsFrames (put_frame f gs)

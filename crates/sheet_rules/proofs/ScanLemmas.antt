@@ -1,15 +1,13 @@
 -- How the length of a value is counted token by token.
-use Rattle.std.proofs.Common.{◌≡◌, ℕ, ◌+◌, ◌<◌, ◌≤◌, List, [], ◌∷◌, length, drop, add-one, get_or, refl, ap, sym, ◌∙◌, subst, arith}
+use Rattle.std.proofs.Common.{◌≡◌, ℕ, ◌+◌, ◌<◌, ◌≤◌, List, [], ◌∷◌, length, drop, add-one, get_or, refl, ap, sym, ◌∙◌, arith}
 use Rattle.std.specs.Prelude.{Result, Ok, Err}
 use Rattle.std.proofs.Math.Seq.{drop-cons}
 use Rattle.std.proofs.lemmas.List.{drop_all}
 use Rattle.css_token.specs.declared.token.Token.{Token}
 use Rattle.sheet_rules.specs.declared.scan.Bracket.{Bracket}
 use Rattle.sheet_rules.specs.declared.scan.Step.{Step}
-use Rattle.sheet_rules.specs.declared.scan.Step.TheVariants.{Stop, Bad, Go}
+use Rattle.sheet_rules.specs.declared.scan.Step.TheVariants.{Go}
 use Rattle.sheet_rules.specs.declared.fault.CssFault.{CssFault}
-use Rattle.sheet_rules.specs.declared.fault.CssFault.TheVariants.{BadToken}
-use Rattle.sheet_rules.specs.Faults.{◌>>=◌}
 use Rattle.sheet_rules.specs.Scanning.{after_step, step_of, value_len, none_open}
 
 -- so many more
@@ -17,12 +15,12 @@ abbrev pub counted_from : ℕ → Result ℕ CssFault → Result ℕ CssFault
 counted_from k (Ok n) = Ok (k + n)
 counted_from k (Err fault) = Err fault
 
-value_len_cons : (end : ℕ) (stack : List Bracket) (t : Token) (ts : List Token)
+pub value_len_cons : (end : ℕ) (stack : List Bracket) (t : Token) (ts : List Token)
     → value_len end stack (t ∷ ts) ≡ after_step t.from (step_of t.kind stack).0 (value_len end (step_of t.kind stack).1 ts)
 unfolding value_len
 value_len_cons end stack t ts = refl
 
-value_len_nil : (end : ℕ) (stack : List Bracket) → value_len end stack [] ≡ none_open end stack
+pub value_len_nil : (end : ℕ) (stack : List Bracket) → value_len end stack [] ≡ none_open end stack
 unfolding value_len
 value_len_nil end stack = refl
 

@@ -1,5 +1,5 @@
 -- How a sheet is read rule by rule.
-use Rattle.std.proofs.Common.{◌≡◌, ℕ, ◌+◌, ◌-◌, ◌<◌, ◌≤◌, zero, suc, List, [], ◌∷◌, length, refl, ap, sym, ◌∙◌, subst, inl, inr, arith}
+use Rattle.std.proofs.Common.{◌≡◌, ℕ, ◌+◌, ◌-◌, ◌<◌, ◌≤◌, zero, suc, List, [], ◌∷◌, refl, ap, sym, ◌∙◌, subst, inl, inr, arith}
 use Rattle.std.specs.Prelude.{None, Some, Ok, Err}
 use Rattle.std.proofs.lemmas.Bool.{cases_lt}
 use Rattle.std.proofs.lemmas.List.Elements.{All-head}
@@ -9,7 +9,8 @@ use Rattle.sheet_rules.specs.declared.fault.BoundName.TheVariants as bound
 use Rattle.sheet_rules.specs.declared.fault.CssFault.{CssFault}
 use Rattle.sheet_rules.specs.declared.fault.CssFault.TheVariants.{Bound}
 use Rattle.sheet_rules.specs.Faults.{◌>>=◌}
-use Rattle.sheet_rules.specs.Rules.{SheetRules, first_of, item_at, sheet_at, whole_or}
+use Rattle.sheet_types.specs.Sheets.{SheetRules}
+use Rattle.sheet_rules.specs.Rules.{first_of, item_at, sheet_at, whole_or}
 use Rattle.sheet_rules.specs.Scanning.{after_spaces}
 use Rattle.sheet_rules.proofs.Within.{Lie}
 
@@ -19,12 +20,12 @@ pub record IsReading (text : List ℕ) (before : SheetRules) (tokens : List Toke
   pub lie : Lie text rest
   pub reading : sheet_at text (4096 - left) left sheet rest ≡ sheet_at text 0 4096 before tokens
 
-sheet_none : (text : List ℕ) (place : ℕ) (sheet : SheetRules) (rest : List Token)
+pub sheet_none : (text : List ℕ) (place : ℕ) (sheet : SheetRules) (rest : List Token)
     → sheet_at text place zero sheet rest ≡ whole_or sheet (first_of (after_spaces rest)) (λ t. Err (Bound bound.Rules t.from))
 unfolding sheet_at
 sheet_none text place sheet rest = refl
 
-sheet_more : (text : List ℕ) (place left : ℕ) (sheet : SheetRules) (rest : List Token)
+pub sheet_more : (text : List ℕ) (place left : ℕ) (sheet : SheetRules) (rest : List Token)
     → sheet_at text place (suc left) sheet rest
     ≡ whole_or sheet (first_of (after_spaces rest)) (λ t. item_at text place sheet t (after_spaces rest) >>= (λ next. sheet_at text (place + 1) left next.0 next.1))
 unfolding sheet_at

@@ -8,7 +8,7 @@ use Rattle.css_token.specs.declared.token.Token.{Token}
 use Rattle.shorthand_text.specs.KnownNames.{known_name}
 use Rattle.sheet_rules.specs.declared.block_kind.BlockKind.{BlockKind}
 use Rattle.sheet_rules.specs.declared.block_kind.BlockKind.TheVariants.{Attribute, Style, Keyframe}
-use Rattle.sheet_rules.specs.declared.declaration.DeclarationParts.{DeclarationParts}
+use Rattle.sheet_types.specs.declared.declaration.DeclarationParts.{DeclarationParts}
 use Rattle.sheet_rules.specs.declared.fault.BoundName.TheVariants as bound
 use Rattle.sheet_rules.specs.declared.fault.CssFault.{CssFault}
 use Rattle.sheet_rules.specs.declared.fault.CssFault.TheVariants.{BadToken, Bound}
@@ -88,7 +88,8 @@ ended_or (Some name) ts begun = begun name
 -- the declarations from the place on, of which so many more may come, and the tokens after the block
 unfoldable pub block_at : BlockKind → List ℕ → ℕ → ℕ → List Token → Found
 block_at block text place zero ts =
-    part_at block (length text) (after_separators ts) >>= (λ part. ended_or part.0 part.1 (λ name. Err (Bound bound.Declarations name.from)))
+    part_at block (length text) (after_separators ts) >>=
+    (λ part. ended_or part.0 part.1 (λ name. Err (Bound bound.Declarations name.from)))
 block_at block text place (suc left) ts =
     part_at block (length text) (after_separators ts) >>= (λ part. ended_or part.0 part.1 (λ name.
     declaration_at block text place name part.1 >>= (λ first. with_front first.0 (block_at block text (place + 1) left first.1))))

@@ -10,11 +10,8 @@ use Rattle.token_parts.specs.Keywords.{is_keyword}
 use Rattle.token_parts.specs.Parts.{token_parts_of}
 use Rattle.token_parts.specs.declared.fault.ValueFault.{ValueFault}
 use Rattle.token_parts.specs.declared.fault.ValueFault.TheVariants as value
-use Rattle.value_types.specs.declared.list_value.ListName.{ListName}
 use Rattle.value_types.specs.declared.list_value.ListName.TheVariants as list
-use Rattle.value_types.specs.declared.property.PropertyId.{PropertyId}
 use Rattle.value_types.specs.declared.property.PropertyId.TheVariants as property
-use Rattle.value_types.specs.declared.shorthand.Shorthand.{Shorthand}
 use Rattle.value_types.specs.declared.shorthand.Shorthand.TheVariants as short
 use Rattle.shorthand_text.specs.Declaring.{declared_of}
 use Rattle.shorthand_text.specs.declared.known_name.KnownName.{KnownName}
@@ -22,10 +19,10 @@ use Rattle.shorthand_text.specs.declared.known_name.KnownName.TheVariants as kno
 use Rattle.shorthand_text.specs.declared.longhand.Longhand.{Longhand}
 use Rattle.sheet_rules.specs.declared.block_kind.BlockKind.{BlockKind}
 use Rattle.sheet_rules.specs.declared.block_kind.BlockKind.TheVariants.{Attribute, Style, Keyframe}
-use Rattle.sheet_rules.specs.declared.declaration.DeclarationParts.{DeclarationParts}
+use Rattle.sheet_types.specs.declared.declaration.DeclarationParts.{DeclarationParts}
 use Rattle.sheet_rules.specs.declared.fault.BoundName.TheVariants as bound
 use Rattle.sheet_rules.specs.declared.fault.CssFault.{CssFault}
-use Rattle.sheet_rules.specs.declared.fault.CssFault.TheVariants.{BadToken, UnsupportedValue, Bound, NoMemory}
+use Rattle.sheet_rules.specs.declared.fault.CssFault.TheVariants.{UnsupportedValue, Bound, NoMemory}
 use Rattle.sheet_rules.specs.Scanning.{is_space}
 
 -- ---- importance
@@ -92,7 +89,8 @@ abbrev pub declaration_of : ℕ → Bool → Longhand → DeclarationParts
 declaration_of place important longhand = record { longhand = longhand; important = important; place = place }
 
 -- all longhands are declared with one importance at one place
-abbrev pub declarations_of : KnownName → ℕ → ℕ → Bool → Result (List Longhand) ValueFault → Result (List DeclarationParts) CssFault
+abbrev pub declarations_of : KnownName → ℕ → ℕ → Bool → Result (List Longhand) ValueFault
+    → Result (List DeclarationParts) CssFault
 declarations_of name at place important (Ok longhands) = Ok (map (declaration_of place important) longhands)
 declarations_of name at place important (Err fault) = Err (fault_at name at fault)
 
@@ -100,7 +98,8 @@ declarations_of name at place important (Err fault) = Err (fault_at name at faul
 abbrev pub judged_as : BlockKind → ℕ → ℕ → List ℕ → List Token → KnownName → Result (List DeclarationParts) CssFault
 judged_as block place at text tokens name =
     if is_dropped block name (ends_important text tokens) then Ok []
-    else declarations_of name at place (ends_important text tokens) (declared_of name (token_parts_of text (unmarked text tokens)))
+    else declarations_of name at place (ends_important text tokens)
+    (declared_of name (token_parts_of text (unmarked text tokens)))
 
 -- one of an unknown name is dropped
 unfoldable pub judged : BlockKind → ℕ → ℕ → List ℕ → List Token → Option KnownName → Result (List DeclarationParts) CssFault

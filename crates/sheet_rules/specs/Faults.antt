@@ -1,8 +1,7 @@
 -- The first fault of a text.
 use Rattle.std.specs.Prelude.{◌≡◌, List, ◌++◌, Result, Ok, Err, ⊤}
-use Rattle.sheet_rules.specs.declared.fault.BoundName.{BoundName}
 use Rattle.sheet_rules.specs.declared.fault.CssFault.{CssFault}
-use Rattle.sheet_rules.specs.declared.fault.CssFault.TheVariants.{BadToken, NoMemory}
+use Rattle.sheet_rules.specs.declared.fault.CssFault.TheVariants.{NoMemory}
 
 -- what follows a part that was read; its fault is that of the whole
 infixl 10 ◌>>=◌

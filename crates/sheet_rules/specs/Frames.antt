@@ -1,7 +1,8 @@
 -- The frames of a keyframes rule (CSS Animations 1, section 3, "Keyframes").
-use Rattle.std.specs.Prelude.{ℕ, ◌*◌, ◌^◌, ◌≤ℤ◌, not, ℤ, pos, negsuc, Bool, true, false, ◌||◌, ◌&&◌, nat_lt, nat_le, if◌then◌else◌, List, [], ◌∷◌, fold, slice_get, codes, Option, None, Some, Result, Ok, Err}
+use Rattle.std.specs.Prelude.{ℕ, ◌*◌, ◌^◌, ◌≤ℤ◌, ◌==◌, not, ℤ, pos, negsuc, Bool, true, false, ◌||◌, ◌&&◌, nat_lt, nat_le, if◌then◌else◌, List, [], ◌∷◌, find, fold, slice_get, codes, Option, None, Some, Result, Ok, Err}
 use Rattle.std.specs.Option.{option_map_or}
 use Rattle.std.specs.Int.Signed.{lt_z}
+use Rattle.std.specs.Ordering.{int_eq}
 use Rattle.fix_num.specs.Rounded.{rounded_reading_of}
 use Rattle.fix_num.specs.declared.decimal.NumFault.{NumFault}
 use Rattle.fix_num.specs.declared.units.Bill.{Bill}
@@ -11,14 +12,14 @@ use Rattle.value_types.specs.Properties.{number_of}
 use Rattle.timing_types.specs.Timing.{ease}
 use Rattle.timing_types.specs.declared.easing.Easing.{Easing}
 use Rattle.value_types.specs.declared.frame.Frame.{Frame}
-use Rattle.value_types.specs.declared.list_value.ListName.{ListName}
 use Rattle.value_types.specs.declared.list_value.ListName.TheVariants.{AnimationEasing}
 use Rattle.value_types.specs.declared.list_value.ListValue.{ListValue}
 use Rattle.value_types.specs.declared.list_value.ListValue.TheVariants.{Initial, Easings}
+use Rattle.value_types.specs.declared.property.PropertyId.{PropertyId}
 use Rattle.value_types.specs.declared.property.PropertyId.TheVariants as property
 use Rattle.shorthand_text.specs.declared.longhand.Longhand.{Longhand}
 use Rattle.shorthand_text.specs.declared.longhand.Longhand.TheVariants as given
-use Rattle.sheet_rules.specs.declared.declaration.DeclarationParts.{DeclarationParts}
+use Rattle.sheet_types.specs.declared.declaration.DeclarationParts.{DeclarationParts}
 
 -- ---- offsets
 
@@ -79,7 +80,8 @@ easing_of other ds = fold (λ easing d. easing_given d.longhand easing) other ds
 
 -- at a smaller offset, or at the same one with a smaller property number
 abbrev pub stands_before : Frame → Frame → Bool
-stands_before f g = lt_z f.offset.0 g.offset.0 || (not (lt_z g.offset.0 f.offset.0) && nat_lt (number_of f.property) (number_of g.property))
+stands_before f g = lt_z f.offset.0 g.offset.0 ||
+    (not (lt_z g.offset.0 f.offset.0) && nat_lt (number_of f.property) (number_of g.property))
 
 -- a frame stands at the place, and the frame doesn't stand before it
 abbrev pub is_taken : Frame → List Frame → ℕ → Bool
@@ -95,7 +97,8 @@ put_frame f (g ∷ gs) =
 -- what a longhand gives the frames at an offset: display isn't animated
 abbrev pub put_longhand : Bill → Option Easing → Longhand → List Frame → List Frame
 put_longhand at easing (given.Property property.Display d) fs = fs
-put_longhand at easing (given.Property p d) fs = put_frame (record { offset = at; property = p; declared = d; easing = easing }) fs
+put_longhand at easing (given.Property p d) fs = put_frame
+    (record { offset = at; property = p; declared = d; easing = easing }) fs
 put_longhand at easing (given.List name v) fs = fs
 
 -- the declarations of a block at one offset, one after another
@@ -105,3 +108,12 @@ put_block at easing ds fs = fold (λ fs d. put_longhand at easing d.longhand fs)
 -- and at each of its offsets
 abbrev pub put_blocks : List Bill → Option Easing → List DeclarationParts → List Frame → List Frame
 put_blocks offsets easing ds fs = fold (λ fs at. put_block at easing ds fs) fs offsets
+
+-- ---- what frames give
+
+abbrev pub is_of : Bill → PropertyId → Frame → Bool
+is_of at p f = int_eq f.offset.0 at.0 && (number_of f.property == number_of p)
+
+-- the frame of the offset and the property, where there is one
+abbrev pub frame_of : Bill → PropertyId → List Frame → Option Frame
+frame_of at p fs = find (is_of at p) fs

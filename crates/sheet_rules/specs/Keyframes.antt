@@ -11,7 +11,7 @@ use Rattle.sheet_rules.specs.declared.block_kind.BlockKind.TheVariants.{Keyframe
 use Rattle.sheet_rules.specs.declared.fault.BoundName.TheVariants as bound
 use Rattle.sheet_rules.specs.declared.fault.CssFault.{CssFault}
 use Rattle.sheet_rules.specs.declared.fault.CssFault.TheVariants.{BadToken, UnsupportedRule, Bound}
-use Rattle.sheet_rules.specs.declared.rule.KeyframesRule.{KeyframesRule}
+use Rattle.sheet_types.specs.declared.rule.KeyframesRule.{KeyframesRule}
 use Rattle.sheet_rules.specs.Blocks.{block_at}
 use Rattle.sheet_rules.specs.Declarations.{is_ident, solid}
 use Rattle.sheet_rules.specs.Faults.{◌>>=◌}
@@ -58,11 +58,13 @@ after_close [] = None
 after_close (t ∷ ts) = closed_by_kind t.kind ts
 
 -- the frames are whole where the rule is closed, and else go on
-abbrev pub closed_or : Option (List Token) → List Frame → Result (List Frame × List Token) CssFault → Result (List Frame × List Token) CssFault
+abbrev pub closed_or : Option (List Token) → List Frame → Result (List Frame × List Token) CssFault
+    → Result (List Frame × List Token) CssFault
 closed_or (Some rest) frames others = Ok (frames, rest)
 closed_or None frames others = others
 
--- the frames of a rule up to its `}`, and the tokens after it; each block takes an offset at least, so that so many blocks are enough
+-- the frames of a rule up to its `}`, and the tokens after it; each block takes an offset at least, so that so many blocks are
+-- enough
 unfoldable pub frames_at : List ℕ → ℕ → ℕ → List Frame → List Token → Result (List Frame × List Token) CssFault
 frames_at text zero left frames ts = Err (BadToken (length text))
 frames_at text (suc blocks) left frames ts =
@@ -92,5 +94,6 @@ abbrev pub keyframes_rule : List ℕ → List Frame → ℕ → KeyframesRule
 keyframes_rule name frames place = record { name = name; frames = frames; place = place }
 
 -- the rules with the one that was read, and the tokens after it
-abbrev pub keyframes_after : List KeyframesRule → ℕ → Result (List ℕ × List Frame × List Token) CssFault → Result (List KeyframesRule × List Token) CssFault
+abbrev pub keyframes_after : List KeyframesRule → ℕ → Result (List ℕ × List Frame × List Token) CssFault
+    → Result (List KeyframesRule × List Token) CssFault
 keyframes_after rules place found = found >>= (λ f. Ok (rules ++ keyframes_rule f.0 f.1 place ∷ [], f.2))

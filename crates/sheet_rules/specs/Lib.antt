@@ -1,8 +1,12 @@
 pub mod Faults
 pub mod Scanning
+pub mod Pairing
 pub mod Declarations
 pub mod Blocks
+pub mod BlockGrammar
 pub mod Frames
 pub mod Keyframes
 pub mod Rules
-pub mod Sheets
+pub mod StyleGrammar
+pub mod RuleGrammar
+pub mod SheetGrammar

@@ -14,12 +14,13 @@ use Rattle.selectors_mini.specs.Reading.{selectors_of}
 use Rattle.selectors_mini.specs.declared.reading.SelectorFault.{SelectorFault}
 use Rattle.selectors_mini.specs.declared.reading.SelectorFault.TheVariants as selector
 use Rattle.sheet_rules.specs.declared.block_kind.BlockKind.TheVariants.{Attribute, Style}
-use Rattle.sheet_rules.specs.declared.declaration.DeclarationParts.{DeclarationParts}
+use Rattle.sheet_types.specs.declared.declaration.DeclarationParts.{DeclarationParts}
 use Rattle.sheet_rules.specs.declared.fault.BoundName.TheVariants as bound
 use Rattle.sheet_rules.specs.declared.fault.CssFault.{CssFault}
 use Rattle.sheet_rules.specs.declared.fault.CssFault.TheVariants.{BadToken, UnsupportedRule, Bound, NoMemory}
-use Rattle.sheet_rules.specs.declared.rule.KeyframesRule.{KeyframesRule}
-use Rattle.sheet_rules.specs.declared.rule.Rule.{Rule}
+use Rattle.sheet_types.specs.declared.rule.KeyframesRule.{KeyframesRule}
+use Rattle.sheet_types.specs.declared.rule.Rule.{Rule}
+use Rattle.sheet_types.specs.Sheets.{SheetRules, no_rules}
 use Rattle.sheet_rules.specs.Blocks.{block_at}
 use Rattle.sheet_rules.specs.Faults.{◌>>=◌}
 use Rattle.sheet_rules.specs.Keyframes.{keyframes_after, keyframes_at, wanted}
@@ -56,17 +57,6 @@ rule_after rules found = found >>= (λ f. Ok (rules ++ f.0 ∷ [], f.1))
 
 -- ---- sheets
 
--- the rules of a sheet
-pub record SheetRules : Type 0 where
-  pub rules : List Rule
-  pub keyframes : List KeyframesRule
-
-abbrev pub sheet_rules : List Rule → List KeyframesRule → SheetRules
-sheet_rules rules keyframes = record { rules = rules; keyframes = keyframes }
-
-abbrev pub no_rules : SheetRules
-no_rules = record { rules = []; keyframes = [] }
-
 -- those rules, and the tokens after them
 abbrev pub RulesFound : Type 0
 RulesFound = Result (SheetRules × List Token) CssFault
@@ -86,7 +76,8 @@ is_at_word _ = false
 unfoldable pub item_at : List ℕ → ℕ → SheetRules → Token → List Token → RulesFound
 item_at text place sheet t ts =
     if is_at_word t.kind then
-    (if is_keyword (bytes_of text t) (codes "@keyframes") then with_keyframes sheet (keyframes_after sheet.keyframes place (keyframes_at text t.from (drop 1 ts)))
+    (if is_keyword (bytes_of text t) (codes "@keyframes") then
+    with_keyframes sheet (keyframes_after sheet.keyframes place (keyframes_at text t.from (drop 1 ts)))
     else Err (UnsupportedRule t.from))
     else with_style sheet (rule_after sheet.rules (rule_at text place t.from ts))
 

@@ -6,11 +6,11 @@ ghost use Rattle.sheet_rules.specs.Blocks.{after_separators, block_at, block_end
 ghost use Rattle.sheet_rules.specs.Faults.{Gives};
 
 use crate::block_kind::BlockKind;
-use crate::declaration::Declaration;
 use crate::fault::{BoundName, CssFault};
 use crate::judge::{bytes_of, judge};
 use crate::scan::{after, after_spaces, front, value_len};
 use css_token::{Kind, Token};
+use sheet_types::Declaration;
 use shorthand_text::name_of;
 use std::alloc::Global;
 
@@ -95,7 +95,8 @@ fn declaration_at<'a>(
     requires short { length text.now ≤ 67108864 }
     requires name { IsTokenOf text.now name }
     requires within { All (IsTokenOf text.now) tokens.now }
-    ensures reading { Gives (λ rest. (found.new.items, rest.now)) result (with_front found.old.items (declaration_at block text.now place name tokens.now)) }
+    ensures reading { Gives (λ rest. (found.new.items, rest.now)) result
+        (with_front found.old.items (declaration_at block text.now place name tokens.now)) }
     ensures within { IfOk result (λ rest. All (IsTokenOf text.now) rest.now) }
 {
     let end = text.len() as u32;
@@ -124,7 +125,8 @@ pub(crate) fn block_at<'a>(
 ) -> Result<&'a [Token], CssFault>
     requires short { length text.now ≤ 67108864 }
     requires within { All (IsTokenOf text.now) tokens.now }
-    ensures reading { Gives (λ rest. (found.new.items, rest.now)) result (with_front found.old.items (block_at block text.now 0 64 tokens.now)) }
+    ensures reading { Gives (λ rest. (found.new.items, rest.now)) result
+        (with_front found.old.items (block_at block text.now 0 64 tokens.now)) }
     ensures within { IfOk result (λ rest. All (IsTokenOf text.now) rest.now) }
 {
     let end = text.len() as u32;

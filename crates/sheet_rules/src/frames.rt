@@ -7,8 +7,8 @@ ghost use Rattle.timing_types.specs.Timing.{IsEasing};
 ghost use Rattle.shorthand_text.specs.Longhands.{IsLonghand};
 ghost use Rattle.sheet_rules.specs.Frames.{IsOffset, easing_given, easing_of, first_easing, put_block, put_blocks, put_frame, put_longhand, is_taken, stands_before};
 
-use crate::declaration::Declaration;
 use fix_num::Bill;
+use sheet_types::Declaration;
 use shorthand_text::Longhand;
 use std::alloc::AllocError;
 use timing_types::Easing;

@@ -6,10 +6,10 @@ ghost use Rattle.sheet_rules.specs.Declarations.{declaration_of, ends_important,
 ghost use Rattle.sheet_rules.specs.Faults.{GivesMore};
 
 use crate::block_kind::BlockKind;
-use crate::declaration::{Declaration, DeclarationParts};
 use crate::fault::{BoundName, CssFault};
 use crate::scan::{front, is_space};
 use css_token::{Kind, Token};
+use sheet_types::{Declaration, DeclarationParts};
 use shorthand_text::{KnownName, Longhand, read_longhands};
 use std::alloc::{AllocError, Global};
 use token_parts::{ValueFault, is_keyword};

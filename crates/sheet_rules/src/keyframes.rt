@@ -14,13 +14,13 @@ use crate::fault::{BoundName, CssFault};
 use crate::frames::{easing_of, put_blocks};
 use crate::judge::{bytes_of, solid};
 use crate::offsets::offsets_of;
-use crate::rule::KeyframesRule;
 use crate::scan::{after_brace, after_spaces, front, place_of, prelude_len};
 use css_token::{Kind, Token};
 use fix_num::Bill;
+use sheet_types::KeyframesRule;
 use std::alloc::Global;
-use token_parts::parts;
 use timing_types::Name;
+use token_parts::parts;
 use value_types::{Frame, Frames};
 
 /// How many offsets the frames of a rule may have.
@@ -90,7 +90,8 @@ fn frame_at<'a>(
     requires short { length text.now ≤ 67108864 }
     requires within { All (IsTokenOf text.now) tokens.now }
     requires frames { IsFrames frames.old.items }
-    ensures reading { Gives (λ next. (frames.new.items, next.0, next.1.now)) result (frame_at text.now left frames.old.items tokens.now) }
+    ensures reading { Gives (λ next. (frames.new.items, next.0, next.1.now)) result
+        (frame_at text.now left frames.old.items tokens.now) }
     ensures within { IfOk result (λ next. All (IsTokenOf text.now) next.1.now) }
     ensures frames { OnOk result (IsFrames frames.new.items) }
 {
@@ -122,13 +123,14 @@ fn frames_at<'a>(
     requires short { length text.now ≤ 67108864 }
     requires within { All (IsTokenOf text.now) tokens.now }
     requires frames { IsFrames frames.old.items }
-    ensures reading { Gives (λ rest. (frames.new.items, rest.now)) result (frames_at text.now 65 64 frames.old.items tokens.now) }
+    ensures reading { Gives (λ rest. (frames.new.items, rest.now)) result
+        (frames_at text.now 65 64 frames.old.items tokens.now) }
     ensures within { IfOk result (λ rest. All (IsTokenOf text.now) rest.now) }
     ensures frames { OnOk result (IsFrames frames.new.items) }
 {
     let mut rest = tokens;
     let mut left = MOST;
-    for blocks in 0..65u32 {
+    for done in 0..65u32 {
         let next = after_spaces(rest);
         if let Some(others) = after_close(next) {
             return Ok(others);
@@ -159,7 +161,8 @@ pub(crate) fn keyframes_at<'a>(
 ) -> Result<&'a [Token], CssFault>
     requires short { length text.now ≤ 67108864 }
     requires within { All (IsTokenOf text.now) tokens.now }
-    ensures reading { Gives (λ rest. (found.new.items, rest.now)) result (keyframes_after found.old.items place (keyframes_at text.now at tokens.now)) }
+    ensures reading { Gives (λ rest. (found.new.items, rest.now)) result
+        (keyframes_after found.old.items place (keyframes_at text.now at tokens.now)) }
     ensures within { IfOk result (λ rest. All (IsTokenOf text.now) rest.now) }
 {
     let end = text.len() as u32;

@@ -5,22 +5,22 @@
 
 mod block;
 mod block_kind;
-mod declaration;
 mod fault;
 mod frames;
 mod judge;
 mod keyframes;
+mod laws;
 mod offsets;
-mod rule;
 mod scan;
-mod sheet;
 mod sheet_reader;
-mod sheets;
 
 pub use block_kind::BlockKind;
-pub use declaration::{Declaration, DeclarationParts};
 pub use fault::{BoundName, CssFault};
-pub use rule::{KeyframesRule, Rule};
-pub use sheet::{Sheet, read_sheet};
-pub use sheet_reader::read_style;
-pub use sheets::Sheets;
+pub use laws::{
+    a_sheet_or_a_fault, a_style_or_a_fault, block_reading_is_exact, later_frames_win,
+    sheet_reading_is_exact, style_reading_is_exact, values_pair,
+};
+pub use sheet_reader::{read_sheet, read_style};
+pub use sheet_types::{
+    Declaration, DeclarationParts, KeyframesRule, Rule, SelectorPlace, Sheet, Sheets,
+};

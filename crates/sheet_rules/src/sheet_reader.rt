@@ -2,21 +2,21 @@
 ghost use Rattle.std.specs.Prelude.{◌≡◌, ◌≤◌, All, IfOk, length};
 ghost use Rattle.css_token.specs.TokenLists.{IsTokenOf};
 ghost use Rattle.sheet_rules.specs.Faults.{Gives};
-ghost use Rattle.sheet_rules.specs.Rules.{declarations_in, first_of, item_at, prelude_fault, rule_after, rule_at, sheet_at, sheet_of, sheet_rules, token_fault};
+ghost use Rattle.sheet_rules.specs.Rules.{declarations_in, first_of, item_at, prelude_fault, rule_after, rule_at, sheet_at, sheet_of, token_fault};
+ghost use Rattle.sheet_types.specs.Sheets.{sheet_rules};
 
 use crate::block::block_at;
 use crate::block_kind::BlockKind;
-use crate::declaration::Declaration;
 use crate::fault::{BoundName, CssFault};
 use crate::judge::bytes_of;
 use crate::keyframes::{keyframes_at, wanted};
-use crate::rule::{KeyframesRule, Rule};
 use crate::scan::{after, after_brace, after_spaces, front, prelude_len};
 use css_token::{Kind, Token, TokenFault, tokens};
 use selectors_mini::{SelectorFault, read_selectors};
+use sheet_types::{Declaration, KeyframesRule, Rule, Sheet};
 use std::alloc::Global;
-use token_parts::is_keyword;
 use timing_types::Items;
+use token_parts::is_keyword;
 
 /// How many rules a sheet may have, those of keyframes counted.
 const MOST: u32 = 4096;
@@ -50,7 +50,8 @@ fn rule_at<'a>(
 ) -> Result<&'a [Token], CssFault>
     requires short { length text.now ≤ 67108864 }
     requires within { All (IsTokenOf text.now) tokens.now }
-    ensures reading { Gives (λ rest. (found.new.items, rest.now)) result (rule_after found.old.items (rule_at text.now place at tokens.now)) }
+    ensures reading { Gives (λ rest. (found.new.items, rest.now)) result
+        (rule_after found.old.items (rule_at text.now place at tokens.now)) }
     ensures within { IfOk result (λ rest. All (IsTokenOf text.now) rest.now) }
 {
     let end = text.len() as u32;
@@ -146,10 +147,7 @@ fn sheet_at(
 }
 
 /// The rules of a text, or its first fault.
-pub(crate) fn rules_of(
-    alloc: Global,
-    text: &str,
-) -> Result<(Vec<Rule>, Vec<KeyframesRule>), CssFault>
+fn rules_of(alloc: Global, text: &str) -> Result<(Vec<Rule>, Vec<KeyframesRule>), CssFault>
     requires { length text.now ≤ 67108864 }
     ensures { Gives (λ sheet. sheet_rules sheet.0.items sheet.1.items) result (sheet_of text.now) }
 {
@@ -169,6 +167,20 @@ fn token_fault(fault: TokenFault) -> CssFault
     match fault {
         TokenFault::BadToken { at } => CssFault::BadToken { at },
         TokenFault::NoMemory => CssFault::NoMemory,
+    }
+}
+
+/// The sheet that a text is (CSS Syntax 3, "parse a stylesheet"), or its first fault.
+pub fn read_sheet(alloc: Global, text: &str) -> Result<Sheet, CssFault>
+    requires { length text.now ≤ 67108864 }
+    ensures reading { Gives (λ sheet. sheet) result (sheet_of text.now) }
+{
+    match rules_of(alloc, text) {
+        Ok((rules, keyframes)) => match Sheet::new(alloc, rules, keyframes) {
+            Ok(sheet) => Ok(sheet),
+            Err(_) => Err(CssFault::NoMemory),
+        },
+        Err(fault) => Err(fault),
     }
 }
 

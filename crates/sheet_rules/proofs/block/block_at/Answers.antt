@@ -1,8 +1,6 @@
-use Rattle.std.proofs.Common.{◌≡◌, ◌-◌, List, append-nil, length, ap, subst, sym, ◌∙◌, arith}
-use Rattle.std.specs.Prelude.{Ok, Err}
-use Rattle.css_token.specs.declared.token.Token.{Token}
-use Rattle.sheet_rules.specs.declared.fault.CssFault.{CssFault}
-use Rattle.sheet_rules.specs.Blocks.{after_separators, declaration_at, part_at, with_front}
+use Rattle.std.proofs.Common.{◌-◌, append-nil, length, ap, subst, sym, ◌∙◌}
+use Rattle.std.specs.Prelude.{Ok}
+use Rattle.sheet_rules.specs.Blocks.{declaration_at, part_at, with_front}
 use Rattle.sheet_rules.proofs.BlockLemmas.{block_ends, declaration_fault, goes_on, part_fault, too_many}
 use Rattle.sheet_rules.proofs.FaultLemmas.{fault_passes}
 use Rattle.sheet_rules.proofs.Within.{Lie, lie_after_part, lie_after_separators}

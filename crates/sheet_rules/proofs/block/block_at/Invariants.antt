@@ -1,6 +1,3 @@
-use Rattle.std.proofs.Common.{◌≡◌, ◌-◌, ◌≤◌}
-use Rattle.sheet_rules.specs.Blocks.{block_at, with_front}
-use Rattle.sheet_rules.proofs.Within.{Lie}
 use Rattle.sheet_rules.proofs.BlockLemmas.{IsReading}
 use Rattle.sheet_rules.proofs.block.block_at.Given as goal
 

@@ -1,4 +1,4 @@
-use Rattle.std.proofs.Common.{List, subst, sym}
+use Rattle.std.proofs.Common.{subst, sym}
 use Rattle.std.proofs.lemmas.List.Elements.{All-drop, All-take}
 use Rattle.css_token.specs.TokenLists.{IsTokenOf}
 use Rattle.sheet_rules.proofs.Within.{Lie, lie_after_colon, lie_after_spaces, within}

@@ -1,4 +1,4 @@
-use Rattle.std.proofs.Common.{◌≤◌, length, ap, sym, ◌∙◌, subst, true, false, arith}
+use Rattle.std.proofs.Common.{sym, ◌∙◌, subst, true, false, arith}
 use Rattle.std.proofs.lemmas.List.Sums.{prefix_len-le-length}
 use Rattle.value_types.specs.Keyframes.{IsFrames}
 use Rattle.sheet_rules.specs.Frames.{stands_before}

@@ -1,7 +1,6 @@
 use Rattle.std.proofs.Common.{List, ℕ, ap, subst, sym, ◌∙◌}
 use Rattle.css_token.specs.Productions.{IsIdentifier}
 use Rattle.css_token.specs.TokenLists.{LiesWithin, bytes_of}
-use Rattle.sheet_rules.specs.Keyframes.{lone_word}
 use Rattle.sheet_rules.proofs.Within.{Lie, lie_solid, lone_word_is}
 use Rattle.sheet_rules.proofs.keyframes.name_in.Goals as goal
 

@@ -1,4 +1,4 @@
-use Rattle.std.proofs.Common.{◌≡◌, ◌+◌, [], true, false, drop, length, reverse, sym, ap, ◌∙◌, subst, Ok, arith}
+use Rattle.std.proofs.Common.{◌≡◌, ◌+◌, [], true, false, drop, length, reverse, sym, ap, ◌∙◌, Ok, arith}
 use Rattle.std.specs.Prelude.{◌==◌}
 use Rattle.std.proofs.lemmas.List.{length-reverse}
 use Rattle.sheet_rules.specs.Scanning.{value_len}

@@ -1,5 +1,6 @@
-use Rattle.std.proofs.Common.{◌≡◌, ◌-◌, subst, sym, ◌∙◌}
-use Rattle.sheet_rules.specs.Rules.{first_of, item_at, sheet_rules}
+use Rattle.std.proofs.Common.{◌-◌, subst, sym, ◌∙◌}
+use Rattle.sheet_types.specs.Sheets.{sheet_rules}
+use Rattle.sheet_rules.specs.Rules.{item_at}
 use Rattle.sheet_rules.proofs.FaultLemmas.{fault_passes}
 use Rattle.sheet_rules.proofs.SheetLemmas.{first_lies, goes_on, one_too_many, rule_fault, sheet_ends}
 use Rattle.sheet_rules.proofs.Within.{Lie, lie_after_spaces}

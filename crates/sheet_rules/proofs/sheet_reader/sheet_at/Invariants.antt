@@ -1,5 +1,4 @@
-use Rattle.std.proofs.Common.{◌-◌}
-use Rattle.sheet_rules.specs.Rules.{sheet_rules}
+use Rattle.sheet_types.specs.Sheets.{sheet_rules}
 use Rattle.sheet_rules.proofs.SheetLemmas.{IsReading}
 use Rattle.sheet_rules.proofs.sheet_reader.sheet_at.Given as goal
 

@@ -24,7 +24,7 @@ pub struct Declaration {
 }
 
 impl Model for Declaration {
-    ghost use Rattle.sheet_rules.specs.declared.declaration.DeclarationParts.{DeclarationParts};
+    ghost use Rattle.sheet_types.specs.declared.declaration.DeclarationParts.{DeclarationParts};
     ghost use Rattle.shorthand_text.specs.Longhands.{IsLonghand};
 
     ghost Value = { DeclarationParts };

@@ -1,7 +1,8 @@
 //! The sheets of a document.
 ghost use Rattle.std.specs.Prelude.{◌≡◌, ◌≤◌, ◌-◌, length, None, replicate, set, slice_index_or, IfOk, option_copied};
-ghost use Rattle.sheet_rules.specs.Sheets.{no_sheets, sheet_at_place};
+ghost use Rattle.sheet_types.specs.Sheets.{keyframes_in, later_keyframes, no_sheets, sheet_at_place};
 
+use crate::rule::KeyframesRule;
 use crate::sheet::Sheet;
 use std::alloc::AllocError;
 use std::marker::Model;
@@ -14,7 +15,7 @@ pub struct Sheets {
 
 impl Model for Sheets {
     ghost use Rattle.std.specs.Prelude.{◌≡◌, List, Option, length};
-    ghost use Rattle.sheet_rules.specs.Rules.{SheetRules};
+    ghost use Rattle.sheet_types.specs.Sheets.{SheetRules};
 
     ghost Value = { List (Option SheetRules) };
 
@@ -54,20 +55,53 @@ impl Sheets {
         self.places[k as usize - 1].as_ref()
     }
 
+    /// What stands at the places, in their order.
+    pub fn as_slice(&self) -> &[Option<Sheet>]
+        ensures value { result.now ≡ self.now }
+        ensures count { length result.now ≡ 16 }
+    {
+        self.places.as_slice()
+    }
+
+    /// The keyframes rule that an animation of this name runs: the last one of the last sheet with one (CSS Animations
+    /// 1, section 3); `None` exactly where no sheet has one.
+    pub fn keyframes_named(&self, name: &[u8]) -> Option<&KeyframesRule>
+        ensures { option_copied result ≡ keyframes_in name.now self.now }
+    {
+        let mut found = None;
+        for sheet in self.as_slice() {
+            found = later_keyframes(name, found, sheet);
+        }
+        found
+    }
+
     /// The same sheets, which are shared. Takes no memory: it fails only where a sheet has 2^63 copies already.
     pub fn copy(&self) -> Result<Sheets, AllocError>
         ensures { IfOk result (λ sheets. sheets ≡ self.now) }
     {
         let mut copies = Sheets::empty();
-        for place in 0..16u32 {
-            copies.put(place + 1, copy_of(self.get(place + 1))?);
+        for (at, sheet) in self.as_slice().iter().enumerate() {
+            copies.put(at as u32 + 1, copy_of(sheet)?);
         }
         Ok(copies)
     }
 }
 
-fn copy_of(sheet: Option<&Sheet>) -> Result<Option<Sheet>, AllocError>
-    ensures { IfOk result (λ copy. copy ≡ option_copied sheet.entry) }
+fn later_keyframes<'a>(
+    name: &[u8],
+    found: Option<&'a KeyframesRule>,
+    sheet: &'a Option<Sheet>,
+) -> Option<&'a KeyframesRule>
+    ensures { option_copied result ≡ later_keyframes name.now (option_copied found.entry) sheet.now }
+{
+    match sheet {
+        None => found,
+        Some(sheet) => sheet.keyframes_named(name).or(found),
+    }
+}
+
+fn copy_of(sheet: &Option<Sheet>) -> Result<Option<Sheet>, AllocError>
+    ensures { IfOk result (λ copy. copy ≡ sheet.now) }
 {
     match sheet {
         None => Ok(None),

@@ -1,0 +1,4 @@
+pub mod NameLists
+pub mod Puts
+pub mod Keyed
+pub mod Matched
