@@ -1,5 +1,5 @@
 -- Events by strictly ascending keys.
-use Rattle.std.proofs.Common.{◌≡◌, ℕ, zero, suc, ◌<◌, refl, sym, ◌∙◌, ap, subst, arith, length, get_or, Bool, true, false}
+use Rattle.std.proofs.Common.{◌≡◌, zero, suc, refl, sym, ◌∙◌, ap, subst, arith, get_or, false}
 use Rattle.std.specs.Prelude.{◌⊎◌, List, [], ◌∷◌, AllPairs}
 use Rattle.std.proofs.Common.{inl, inr}
 use Rattle.std.specs.List.{Contains, IsDistinct}

@@ -1,9 +1,6 @@
 //! The order in which events are sent.
 
-ghost use Rattle.std.specs.Prelude.{◌≡◌, IfOk, flat_map};
-ghost use Rattle.std.specs.List.{IsDistinct};
-ghost use Rattle.std.specs.Ordering.{eq_by_cmp};
-ghost use Rattle.style_data.specs.Events.{key_order};
+ghost use Rattle.std.specs.Prelude.{◌≡◌, ◌≢◌, AllPairs, IfOk, flat_map};
 ghost use Rattle.event_order.specs.Order.{IsInOrderOf};
 
 use std::alloc::{AllocError, Global};
@@ -19,7 +16,7 @@ pub fn key(event: &Event) -> Key
 /// The events of all lists, ascending by their keys (Web Animations 1, "update animations and send events": by scheduled
 /// event time, then in composite order). No two events have one key.
 pub fn merge(alloc: Global, lists: Vec<Vec<Event>>) -> Result<Vec<Event>, AllocError>
-    requires { IsDistinct (λ a b. eq_by_cmp key_order a.key b.key) (flat_map (λ list. list.items) lists.items) }
+    requires { AllPairs (λ a b. a.key ≢ b.key) (flat_map (λ list. list.items) lists.items) }
     ensures { IfOk result (λ merged. IsInOrderOf merged.items (flat_map (λ list. list.items) lists.items)) }
 {
     let mut events = joined(alloc, lists)?;

@@ -3,4 +3,6 @@
 #![tactic(auto)]
 
 #[cfg(test)]
+mod elements;
+#[cfg(test)]
 mod events;

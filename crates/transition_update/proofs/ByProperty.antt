@@ -1,5 +1,5 @@
 -- Lists that have an item for some of the properties.
-use Rattle.std.proofs.Common.{◌≡◌, ℕ, ◌+◌, ◌<◌, ◌≤◌, refl, sym, ◌∙◌, ap, arith, rules}
+use Rattle.std.proofs.Common.{◌≡◌, ℕ, ◌+◌, ◌<◌, ◌≤◌, refl, ◌∙◌, ap, arith, rules}
 use Rattle.std.specs.Prelude.{Bool, true, false, cond, nat_eq, List, [], ◌∷◌, length, Option, None, Some, option_map, find}
 use Rattle.std.specs.List.{cons_option, filter_map}
 use Rattle.computed_style.proofs.Tables.{number_small, same_property}

@@ -1,16 +1,15 @@
 -- What has completed and stays.
-use Rattle.std.proofs.Common.{◌≡◌, ◌<◌, refl, sym, ◌∙◌, ap, arith, inl, inr}
+use Rattle.std.proofs.Common.{◌≡◌, refl, sym, ◌∙◌, ap, arith, inl, inr}
 use Rattle.std.specs.Prelude.{◌⊎◌, ◌≢◌, Bool, true, false, Option, None, Some, IsNone, IsSome, IsSomeAnd}
 use Rattle.interpolation.proofs.EqualityLemmas.{same_tells}
 use Rattle.interpolation.specs.Equality.{is_same}
 use Rattle.style_data.specs.declared.transition.Completed.{Completed}
-use Rattle.transition_list.specs.declared.matched.MatchedItem.{MatchedItem}
 use Rattle.value_types.specs.declared.value.Value.{Value}
 use Rattle.transition_start.proofs.Rules.{applies}
 use Rattle.transition_start.specs.Change.{Change}
 use Rattle.transition_start.specs.Functions.{decision_of, rule_of}
 use Rattle.transition_start.specs.Results.{decision_by}
-use Rattle.transition_start.specs.Rules.{Applies, Rule, Unmatched, Starts, DropsCompleted, CancelsThere, CancelsAtOnce, Reverses, Replaces, Keeps, Wants}
+use Rattle.transition_start.specs.Rules.{Applies, Rule, Unmatched, Starts, DropsCompleted, CancelsThere, CancelsAtOnce, Reverses, Replaces, Keeps}
 
 -- values that can't differ are the same
 not_apart : (a b : Value) → (a ≢ b → ⊥) → a ≡ b

@@ -6,14 +6,11 @@ use Rattle.std.proofs.lemmas.List.{take_more}
 use Rattle.std.proofs.lemmas.List.Elements.{All-push, filter_map-append}
 use Rattle.computed_style.proofs.ByIndex.{number-property_at, property_at}
 use Rattle.style_data.specs.TransitionSets.{ComesLast, TransitionSet, kept_with, no_transitions, with_last}
-use Rattle.style_data.specs.declared.decision.Decision.{Decision}
 use Rattle.style_data.specs.declared.gone.Gone.{Gone}
-use Rattle.style_data.specs.declared.transition.Completed.{Completed}
-use Rattle.style_data.specs.declared.transition.Transition.{Transition}
 use Rattle.value_types.specs.Properties.{all_properties, number_of}
 use Rattle.value_types.specs.declared.property.PropertyId.{PropertyId}
 use Rattle.value_types.specs.declared.property.PropertyId.TheVariants.{BackgroundColor}
-use Rattle.transition_update.specs.Updates.{StyleChange, cancelled_by, decision_for, transitions_after}
+use Rattle.transition_update.specs.Updates.{StyleChange, decision_for}
 
 -- what one item gives
 one_gives : {Y : Type 0} (o : Option Y) → cons_option o [] ≡ option_to_list o

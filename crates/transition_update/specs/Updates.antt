@@ -6,8 +6,6 @@ use Rattle.computed_style.specs.Styles.{ComputedStyle, value_of}
 use Rattle.style_data.specs.TransitionSets.{TransitionSet, completed_of, running_of, transition_set}
 use Rattle.style_data.specs.declared.decision.Decision.{Decision}
 use Rattle.style_data.specs.declared.gone.Gone.{Gone}
-use Rattle.style_data.specs.declared.transition.Completed.{Completed}
-use Rattle.style_data.specs.declared.transition.Transition.{Transition}
 use Rattle.transition_list.specs.Matching.{match_of}
 use Rattle.transition_start.specs.Change.{Change, change_at, property_change}
 use Rattle.transition_start.specs.Functions.{decision_of}

@@ -1,5 +1,5 @@
 use Rattle.std.proofs.Common.{◌≡◌, ◌∙◌, ap, sym, refl, inl, inr}
-use Rattle.std.specs.Prelude.{◌⊎◌, Bool, true, false, IsNone, None, Option, Some, is_some, option_copied, unwrap_or}
+use Rattle.std.specs.Prelude.{◌⊎◌, false, IsNone, None, Option, Some, is_some, option_copied}
 use Rattle.computed_style.specs.Styles.{value_of}
 use Rattle.style_data.proofs.Lookups.{one_of_both}
 use Rattle.style_data.specs.TransitionSets.{completed_of, running_of}

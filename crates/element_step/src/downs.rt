@@ -1,0 +1,107 @@
+//! What an element hands down.
+
+ghost use Rattle.std.specs.Prelude.{◌≡◌, IfSome, false, option_copied, option_map};
+ghost use Rattle.computed_style.specs.Styles.{inherited_of};
+ghost use Rattle.value_types.specs.Ranges.{IsSize};
+ghost use Rattle.element_step.specs.Settling.{is_same_inherited};
+ghost use Rattle.std.specs.Option.{option_map_or};
+ghost use Rattle.element_step.specs.Updates.{after_parent, before_parent, changed_from, differs, now_parent};
+
+use fix_num::Fix;
+use interpolation::same;
+use style_data::{Down, Entry, Inherited, Style};
+
+/// What the parent hands down of its before-change style; `None` of the root, and where it has none.
+pub(crate) fn before_parent(parent: Option<&Down>) -> Option<Inherited>
+    ensures { result ≡ before_parent (option_copied parent.entry) }
+{
+    match parent {
+        None => None,
+        Some(down) => down.before,
+    }
+}
+
+/// What the parent hands down of its after-change style; `None` of the root.
+pub(crate) fn after_parent(parent: Option<&Down>) -> Option<Inherited>
+    ensures { result ≡ after_parent (option_copied parent.entry) }
+{
+    match parent {
+        None => None,
+        Some(down) => Some(down.after),
+    }
+}
+
+/// What the parent hands down of its current style; `None` of the root.
+pub(crate) fn now_parent(parent: Option<&Down>) -> Option<Inherited>
+    ensures { result ≡ now_parent (option_copied parent.entry) }
+{
+    match parent {
+        None => None,
+        Some(down) => Some(down.now),
+    }
+}
+
+/// What the element's current style handed down, where the root had this font size; `None` where there was none.
+fn handed_last(now: &Style, root_size: Option<Fix>) -> Option<Inherited>
+    requires { IfSome root_size IsSize }
+    ensures { result ≡ option_map (inherited_of now.now) root_size }
+{
+    match root_size {
+        None => None,
+        Some(size) => Some(now.inherited(size)),
+    }
+}
+
+/// Whether the elements below have to be updated for the element's sake: no frame had styled it, one of its styles hands
+/// down something else than its current style did, or it is rendered now and wasn't, or was and isn't.
+pub(crate) fn is_changed(
+    entry: &Entry,
+    root_size: Option<Fix>,
+    before: Option<&Inherited>,
+    after: Inherited,
+    now: Inherited,
+    rendered: bool,
+) -> bool
+    requires { IfSome root_size IsSize }
+    ensures { result ≡ changed_from entry.now root_size (option_copied before.entry) after now rendered }
+{
+    let last = handed_last(entry.now(), root_size);
+    let before_differs = before_differs(last.as_ref(), before);
+    let after_differs = differs(last.as_ref(), after);
+    let now_differs = differs(last.as_ref(), now);
+    !entry.styled()
+        || before_differs
+        || after_differs
+        || now_differs
+        || rendered != entry.rendered()
+}
+
+fn before_differs(last: Option<&Inherited>, before: Option<&Inherited>) -> bool
+    ensures { result ≡ option_map_or (differs (option_copied last.entry)) (option_copied before.entry) false }
+{
+    match before {
+        None => false,
+        Some(before) => differs(last, *before),
+    }
+}
+
+/// Whether what is handed down now differs from what was.
+fn differs(was: Option<&Inherited>, now: Inherited) -> bool
+    ensures { result ≡ differs (option_copied was.entry) now }
+{
+    match was {
+        None => true,
+        Some(was) => !is_same_inherited(*was, now),
+    }
+}
+
+fn is_same_inherited(a: Inherited, b: Inherited) -> bool
+    ensures { result ≡ is_same_inherited a b }
+{
+    let (a, b) = (a.get(), b.get());
+    same(a.color, b.color)
+        && a.font_size.0 == b.font_size.0
+        && same(a.letter_spacing, b.letter_spacing)
+        && same(a.visibility, b.visibility)
+        && a.root_size.0 == b.root_size.0
+}

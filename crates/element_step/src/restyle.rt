@@ -1,0 +1,274 @@
+//! The styles and transitions of an element at a style change event.
+
+ghost use Rattle.std.specs.Prelude.{◌≡◌, IfOk, IfSome, IsFalse, IsTrue, None, Some, option_copied, if◌then◌else◌};
+ghost use Rattle.change_styles.specs.Inheritance.{handed_down};
+ghost use Rattle.change_styles.specs.ThreeStyles.{before_change_style};
+ghost use Rattle.style_data.specs.Transitions.{IsMoment};
+ghost use Rattle.transition_update.specs.Updates.{all_cancelled, cancelled_by, style_change, transitions_after};
+ghost use Rattle.value_types.specs.Ranges.{IsSize};
+ghost use Rattle.element_step.specs.Rendering.{is_rendered};
+ghost use Rattle.element_step.specs.Updates.{before_parent, cancelled_from, cancelled_of, down_after, element_update, now_of, settled_after, transitions_from, transitions_of};
+
+use crate::downs::{after_parent, before_parent, is_changed, now_parent};
+use crate::rendering::is_rendered;
+use crate::settling::{have_ended, is_settled};
+use change_styles::{after_style, before_style, handed_down, now_style};
+use fix_num::Fix;
+use std::alloc::{AllocError, Global};
+use style_data::{
+    Animation, DeclaredSet, Down, Entry, Gone, Inherited, NoSampling, Sampling, Style, Transitions,
+};
+use transition_update::{
+    StyleChangeEvent, UpdatedTransitions, cancel_transitions, update_transitions,
+};
+
+/// What a style change event makes of an element's styles and transitions.
+#[derive(Drop)]
+pub(crate) struct Restyled {
+    /// The current style.
+    pub(crate) now: Style,
+    pub(crate) transitions: Transitions,
+    /// The transitions that it cancelled.
+    pub(crate) gone: Vec<Gone>,
+    /// Whether nothing will change by time alone.
+    pub(crate) settled: bool,
+    pub(crate) down: Down,
+}
+
+/// The styles and transitions of an element after a style change event, and what it hands down.
+pub(crate) fn restyle<A: Sampling, B: Sampling>(
+    alloc: Global,
+    entry: &Entry,
+    declared: &DeclaredSet,
+    parent: Option<&Down>,
+    old: &A,
+    new: &B,
+    animations: &[Animation],
+    root_size: Option<Fix>,
+    event: StyleChangeEvent,
+) -> Result<Restyled, AllocError>
+    requires time { IsMoment event.time.0 }
+    requires size { IfSome root_size IsSize }
+    ensures now { IfOk result (λ r. r.now ≡ now_of (element_update entry.now declared.now (option_copied parent.entry) (A.animated_value old.now) (B.animated_value new.now) animations.now root_size event)) }
+    ensures transitions { IfOk result (λ r. r.transitions ≡ transitions_of (element_update entry.now declared.now (option_copied parent.entry) (A.animated_value old.now) (B.animated_value new.now) animations.now root_size event)) }
+    ensures gone { IfOk result (λ r. r.gone.items ≡ cancelled_of (element_update entry.now declared.now (option_copied parent.entry) (A.animated_value old.now) (B.animated_value new.now) animations.now root_size event)) }
+    ensures settled { IfOk result (λ r. r.settled ≡ settled_after (element_update entry.now declared.now (option_copied parent.entry) (A.animated_value old.now) (B.animated_value new.now) animations.now root_size event)) }
+    ensures down { IfOk result (λ r. r.down ≡ down_after (element_update entry.now declared.now (option_copied parent.entry) (A.animated_value old.now) (B.animated_value new.now) animations.now root_size event)) }
+{
+    if is_rendered(declared, parent) {
+        restyle_rendered(
+            alloc, entry, declared, parent, old, new, animations, root_size, event,
+        )
+    } else {
+        restyle_unrendered(
+            alloc, entry, declared, parent, old, new, animations, root_size, event,
+        )
+    }
+}
+
+/// An element that is rendered: its transitions start and stay by its before-change and after-change styles, where it
+/// was rendered before.
+fn restyle_rendered<A: Sampling, B: Sampling>(
+    alloc: Global,
+    entry: &Entry,
+    declared: &DeclaredSet,
+    parent: Option<&Down>,
+    old: &A,
+    new: &B,
+    animations: &[Animation],
+    root_size: Option<Fix>,
+    event: StyleChangeEvent,
+) -> Result<Restyled, AllocError>
+    requires rendered { IsTrue (is_rendered declared.now (option_copied parent)) }
+    requires time { IsMoment event.time.0 }
+    requires size { IfSome root_size IsSize }
+    ensures now { IfOk result (λ r. r.now ≡ now_of (element_update entry.now declared.now (option_copied parent.entry) (A.animated_value old.now) (B.animated_value new.now) animations.now root_size event)) }
+    ensures transitions { IfOk result (λ r. r.transitions ≡ transitions_of (element_update entry.now declared.now (option_copied parent.entry) (A.animated_value old.now) (B.animated_value new.now) animations.now root_size event)) }
+    ensures gone { IfOk result (λ r. r.gone.items ≡ cancelled_of (element_update entry.now declared.now (option_copied parent.entry) (A.animated_value old.now) (B.animated_value new.now) animations.now root_size event)) }
+    ensures settled { IfOk result (λ r. r.settled ≡ settled_after (element_update entry.now declared.now (option_copied parent.entry) (A.animated_value old.now) (B.animated_value new.now) animations.now root_size event)) }
+    ensures down { IfOk result (λ r. r.down ≡ down_after (element_update entry.now declared.now (option_copied parent.entry) (A.animated_value old.now) (B.animated_value new.now) animations.now root_size event)) }
+{
+    let above_after = after_parent(parent);
+    let after = after_style(alloc, declared, above_after.as_ref(), old)?;
+    let changes = change_transitions(alloc, entry, &after, parent, old, event)?;
+    let above_now = now_parent(parent);
+    let running = changes.transitions.running();
+    let now = now_style(
+        alloc,
+        declared,
+        running,
+        event.time,
+        above_now.as_ref(),
+        new,
+    )?;
+    let settled = is_settled(running, animations, &after, &now, event.time);
+    let handed_after = handed_down(&after, above_after.as_ref());
+    let handed_now = handed_down(&now, above_now.as_ref());
+    let ChangedTransitions {
+        transitions,
+        gone,
+        before,
+    } = changes;
+    let changed = is_changed(
+        entry,
+        root_size,
+        before.as_ref(),
+        handed_after,
+        handed_now,
+        true,
+    );
+    let down = Down {
+        before,
+        after: handed_after,
+        now: handed_now,
+        rendered: true,
+        changed,
+    };
+    Ok(Restyled {
+        now,
+        transitions,
+        gone,
+        settled,
+        down,
+    })
+}
+
+/// What is left of the transitions, what is cancelled, and what the before-change style hands down.
+#[derive(Drop)]
+struct ChangedTransitions {
+    transitions: Transitions,
+    gone: Vec<Gone>,
+    before: Option<Inherited>,
+}
+
+/// The transitions of a rendered element: none start where it wasn't rendered before.
+fn change_transitions<A: Sampling>(
+    alloc: Global,
+    entry: &Entry,
+    after: &Style,
+    parent: Option<&Down>,
+    old: &A,
+    event: StyleChangeEvent,
+) -> Result<ChangedTransitions, AllocError>
+    requires { IsMoment event.time.0 }
+    ensures transitions { IfOk result (λ c. c.transitions ≡ transitions_from entry.now.rendered (style_change (before_change_style entry.now (A.animated_value old.now) event.time.0 (before_parent (option_copied parent.entry))) after.now event) entry.now.effects.transitions) }
+    ensures gone { IfOk result (λ c. c.gone.items ≡ cancelled_from entry.now.rendered (style_change (before_change_style entry.now (A.animated_value old.now) event.time.0 (before_parent (option_copied parent.entry))) after.now event) entry.now.effects.transitions) }
+    ensures before { IfOk result (λ c. c.before ≡ (if entry.now.rendered then Some (handed_down (before_parent (option_copied parent.entry)) (before_change_style entry.now (A.animated_value old.now) event.time.0 (before_parent (option_copied parent.entry)))) else None)) }
+{
+    if !entry.rendered() {
+        return Ok(ChangedTransitions {
+            transitions: Transitions::new(alloc),
+            gone: Vec::new(alloc),
+            before: None,
+        });
+    }
+    let above = before_parent(parent);
+    let before = before_style(alloc, entry, event.time, above.as_ref(), old)?;
+    let handed = handed_down(&before, above.as_ref());
+    let updated = update_kept(alloc, entry, &before, after, event)?;
+    Ok(ChangedTransitions {
+        transitions: updated.transitions,
+        gone: updated.gone,
+        before: Some(handed),
+    })
+}
+
+/// The rules of starting, applied to the entry's transitions.
+fn update_kept(
+    alloc: Global,
+    entry: &Entry,
+    before: &Style,
+    after: &Style,
+    event: StyleChangeEvent,
+) -> Result<UpdatedTransitions, AllocError>
+    requires { IsMoment event.time.0 }
+    ensures transitions { IfOk result (λ u. u.transitions ≡ transitions_after (style_change before.now after.now event) entry.now.effects.transitions) }
+    ensures gone { IfOk result (λ u. u.gone.items ≡ cancelled_by (style_change before.now after.now event) entry.now.effects.transitions) }
+{
+    match entry.effects() {
+        Some(effects) => { update_transitions(alloc, effects.transitions(), before, after, event) }
+        None => update_transitions(alloc, &Transitions::new(alloc), before, after, event),
+    }
+}
+
+/// An element that isn't rendered: all its transitions are cancelled, and it has neither these nor animations.
+fn restyle_unrendered<A: Sampling, B: Sampling>(
+    alloc: Global,
+    entry: &Entry,
+    declared: &DeclaredSet,
+    parent: Option<&Down>,
+    old: &A,
+    new: &B,
+    animations: &[Animation],
+    root_size: Option<Fix>,
+    event: StyleChangeEvent,
+) -> Result<Restyled, AllocError>
+    requires rendered { IsFalse (is_rendered declared.now (option_copied parent)) }
+    requires time { IsMoment event.time.0 }
+    requires size { IfSome root_size IsSize }
+    ensures now { IfOk result (λ r. r.now ≡ now_of (element_update entry.now declared.now (option_copied parent.entry) (A.animated_value old.now) (B.animated_value new.now) animations.now root_size event)) }
+    ensures transitions { IfOk result (λ r. r.transitions ≡ transitions_of (element_update entry.now declared.now (option_copied parent.entry) (A.animated_value old.now) (B.animated_value new.now) animations.now root_size event)) }
+    ensures gone { IfOk result (λ r. r.gone.items ≡ cancelled_of (element_update entry.now declared.now (option_copied parent.entry) (A.animated_value old.now) (B.animated_value new.now) animations.now root_size event)) }
+    ensures settled { IfOk result (λ r. r.settled ≡ settled_after (element_update entry.now declared.now (option_copied parent.entry) (A.animated_value old.now) (B.animated_value new.now) animations.now root_size event)) }
+    ensures down { IfOk result (λ r. r.down ≡ down_after (element_update entry.now declared.now (option_copied parent.entry) (A.animated_value old.now) (B.animated_value new.now) animations.now root_size event)) }
+{
+    let above = now_parent(parent);
+    let now = now_style(
+        alloc,
+        declared,
+        &[],
+        event.time,
+        above.as_ref(),
+        &NoSampling,
+    )?;
+    let gone = cancel_kept(alloc, entry, event)?;
+    let handed = handed_down(&now, above.as_ref());
+    let before = before_handed(alloc, entry, parent, old, event)?;
+    let changed = is_changed(entry, root_size, before.as_ref(), handed, handed, false);
+    let down = Down {
+        before,
+        after: handed,
+        now: handed,
+        rendered: false,
+        changed,
+    };
+    Ok(Restyled {
+        now,
+        transitions: Transitions::new(alloc),
+        gone,
+        settled: have_ended(animations, event.time),
+        down,
+    })
+}
+
+fn cancel_kept(
+    alloc: Global,
+    entry: &Entry,
+    event: StyleChangeEvent,
+) -> Result<Vec<Gone>, AllocError>
+    requires { IsMoment event.time.0 }
+    ensures { IfOk result (λ gone. gone.items ≡ all_cancelled entry.now.effects.transitions event.time.0) }
+{
+    match entry.effects() {
+        Some(effects) => cancel_transitions(alloc, effects.transitions(), event.time),
+        None => cancel_transitions(alloc, &Transitions::new(alloc), event.time),
+    }
+}
+
+/// What the before-change style hands down, where the element was rendered before.
+fn before_handed<A: Sampling>(
+    alloc: Global,
+    entry: &Entry,
+    parent: Option<&Down>,
+    old: &A,
+    event: StyleChangeEvent,
+) -> Result<Option<Inherited>, AllocError>
+    ensures { IfOk result (λ b. b ≡ (if entry.now.rendered then Some (handed_down (before_parent (option_copied parent.entry)) (before_change_style entry.now (A.animated_value old.now) event.time.0 (before_parent (option_copied parent.entry)))) else None)) }
+{
+    if !entry.rendered() {
+        return Ok(None);
+    }
+    let above = before_parent(parent);
+    let before = before_style(alloc, entry, event.time, above.as_ref(), old)?;
+    Ok(Some(handed_down(&before, above.as_ref())))
+}

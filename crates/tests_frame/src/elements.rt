@@ -1,0 +1,37 @@
+//! The update of an element.
+use element_step::{Paired, is_rendered, update_entry};
+use fix_num::{Fix, Micros};
+use std::test::Fail;
+use style_data::{DeclaredSet, Entry, NoSampling};
+use transition_update::StyleChangeEvent;
+use value_types::{PropertyId, Value};
+
+#[test]
+fn first_update_of_the_root(rt: HostRuntime) -> Result<(), Fail> {
+    let event = StyleChangeEvent {
+        time: Micros(0),
+        generation: 1,
+        position: 0,
+    };
+    let paired = Paired {
+        animations: Vec::new(rt.alloc()),
+        gone: Vec::new(rt.alloc()),
+    };
+    let fresh = Entry::fresh(rt.alloc())?;
+    let updated = update_entry(
+        rt.alloc(),
+        &fresh,
+        DeclaredSet::empty(),
+        None,
+        &NoSampling,
+        &NoSampling,
+        paired,
+        None,
+        event,
+    )?;
+    assert!(rt; updated.entry.styled() && updated.entry.rendered() && updated.entry.settled());
+    assert!(rt; updated.entry.now().value(PropertyId::Opacity) == Value::Number(Fix(1_000_000)));
+    assert!(rt; updated.down.rendered && updated.down.changed && updated.down.before.is_none());
+    assert!(rt; is_rendered(&DeclaredSet::empty(), Some(&updated.down)));
+    Ok(())
+}
