@@ -13,6 +13,8 @@ mod events;
 #[cfg(test)]
 mod fading;
 #[cfg(test)]
+mod keyframe_samples;
+#[cfg(test)]
 mod matching;
 #[cfg(test)]
 mod starting;
