@@ -1,7 +1,8 @@
 //! Samples of keyframes rules.
-ghost use Rattle.std.specs.Prelude.{◌≡◌};
+ghost use Rattle.std.specs.Prelude.{◌≡◌, ◌≤◌, ◌^◌, pos, ◌<ℤ◌, IfSome};
 ghost use Rattle.fix_num.specs.Fractions.{IsFraction};
-ghost use Rattle.value_types.specs.Keyframes.{IsFrame, IsFrameBefore};
+ghost use Rattle.timing_types.specs.Timing.{IsEasing};
+ghost use Rattle.value_types.specs.Keyframes.{IsFrame};
 ghost use Rattle.value_types.specs.Validity.{IsDeclaredFor, IsValid};
 
 use computed_style::Sampling;
@@ -36,13 +37,29 @@ fn declared(amount: u16, unit: Unit) -> Declared
     })
 }
 
-fn frame(offset: i64, declared: Declared, easing: Option<Easing>) -> Frame {
+fn frame(offset: u32, declared: Declared, easing: Option<Easing>) -> Frame
+    requires offset { offset ≤ 10 ^ 9 }
+    requires declared { IsDeclaredFor PropertyId.Width declared }
+    requires easing { IfSome easing IsEasing }
+    ensures frame { IsFrame result }
+    ensures offset { result.offset.0 ≡ pos offset }
+{
     Frame {
-        offset: Bill(offset),
+        offset: Bill(i64::from(offset)),
         property: WIDTH,
         declared,
         easing,
     }
+}
+
+/// A rule of one frame.
+#[tactic(auto, using(crate::proofs::TwoFrames::one_frame))]
+fn one_frame(alloc: Global, only: Frame) -> Result<Frames, AllocError>
+    requires { IsFrame only }
+{
+    let mut frames = Vec::new(alloc);
+    frames.push(only)?;
+    Ok(Frames::from_vec(frames))
 }
 
 /// A rule of two frames.
@@ -50,7 +67,7 @@ fn frame(offset: i64, declared: Declared, easing: Option<Easing>) -> Frame {
 fn two_frames(alloc: Global, first: Frame, second: Frame) -> Result<Frames, AllocError>
     requires first { IsFrame first }
     requires second { IsFrame second }
-    requires ascending { IsFrameBefore first second }
+    requires ascending { first.offset.0 <ℤ second.offset.0 }
 {
     let mut frames = Vec::new(alloc);
     frames.push(first)?;
@@ -77,7 +94,7 @@ fn width(frames: &Frames, at: i64) -> Option<Value>
 #[test]
 fn missing_start(rt: HostRuntime) -> Result<(), Fail> {
     let to = frame(1_000_000_000, declared(400, Unit::Px), None);
-    let frames = Frames::from_vec(vec![in rt.alloc(); to]?);
+    let frames = one_frame(rt.alloc(), to)?;
     assert!(rt; width(&frames, 500_000_000) == Some(pixels(250)));
     assert!(rt; width(&frames, 0) == Some(pixels(100)));
     assert!(rt; width(&frames, 1_000_000_000) == Some(pixels(400)));
@@ -132,7 +149,7 @@ fn starting_keyframe_eases(rt: HostRuntime) -> Result<(), Fail> {
 fn sampled(alloc: Global, px: u16) -> Result<AnimationSample, AllocError> {
     let to = frame(1_000_000_000, declared(px, Unit::Px), None);
     Ok(AnimationSample::new(SampleParts {
-        frames: Shared::new(alloc, Frames::from_vec(vec![in alloc; to]?))?,
+        frames: Shared::new(alloc, one_frame(alloc, to)?)?,
         easing: Easing::Linear,
         num: 1,
         den: 3,
