@@ -21,6 +21,8 @@ const HALF: Option<u32> = Some(500_000);
 
 const ONCE: Option<u32> = Some(1_000_000);
 
+const TWICE: Option<u32> = Some(2_500_000);
+
 const ENDLESS: Option<u32> = None;
 
 /// The timing of a row, in milliseconds and millionths.
@@ -97,217 +99,163 @@ fn is_given(alloc: Global, row: Row, t: u32, given: Option<(i64, u64)>) -> bool 
 
 const END: i64 = 1_000_000_000;
 
+/// A timing, a time, and the progress and the iteration then, while the animation is active.
+const BETWEEN: [(u32, i32, Option<u32>, Direction, Fill, u32, i64, u64); 13] = [
+    (1000, 0, TWICE, TURNING, Fill::Both, 1000, END, 1),
+    (1000, 0, TWICE, NORMAL, Fill::Nothing, 1250, 250_000_000, 1),
+    (1000, 0, TWICE, REVERSE, Fill::Nothing, 1250, 750_000_000, 1),
+    (1000, 0, TWICE, TURNING, Fill::Nothing, 1250, 750_000_000, 1),
+    (1000, 0, TWICE, TURNED, Fill::Nothing, 1250, 250_000_000, 1),
+    (1000, 0, TWICE, TURNING, Fill::Nothing, 2250, 250_000_000, 2),
+    (1000, 0, TWICE, TURNED, Fill::Nothing, 2250, 750_000_000, 2),
+    (3, 0, ONCE, NORMAL, Fill::Nothing, 1, 333_333_333, 0),
+    (3, 0, ONCE, NORMAL, Fill::Nothing, 2, 666_666_667, 0),
+    (1000, -500, ONCE, NORMAL, Fill::Nothing, 0, 500_000_000, 0),
+    (1000, 500, ONCE, NORMAL, Fill::Nothing, 500, 0, 0),
+    (
+        1000,
+        -1500,
+        ENDLESS,
+        NORMAL,
+        Fill::Nothing,
+        0,
+        500_000_000,
+        1,
+    ),
+    (1000, 0, ENDLESS, TURNING, Fill::Nothing, 1_000_000, 0, 1000),
+];
+
 #[test]
 fn progress_between_the_boundaries(rt: HostRuntime) {
-    let twice = Some(2_500_000);
-    for (row, t, value, iteration) in [
-        (timed(1000, 0, twice, TURNING, Fill::Both), 1000, END, 1),
-        (
-            timed(1000, 0, twice, NORMAL, Fill::Nothing),
-            1250,
-            250_000_000,
-            1,
-        ),
-        (
-            timed(1000, 0, twice, REVERSE, Fill::Nothing),
-            1250,
-            750_000_000,
-            1,
-        ),
-        (
-            timed(1000, 0, twice, TURNING, Fill::Nothing),
-            1250,
-            750_000_000,
-            1,
-        ),
-        (
-            timed(1000, 0, twice, TURNED, Fill::Nothing),
-            1250,
-            250_000_000,
-            1,
-        ),
-        (
-            timed(1000, 0, twice, TURNING, Fill::Nothing),
-            2250,
-            250_000_000,
-            2,
-        ),
-        (
-            timed(1000, 0, twice, TURNED, Fill::Nothing),
-            2250,
-            750_000_000,
-            2,
-        ),
-        (timed(3, 0, ONCE, NORMAL, Fill::Nothing), 1, 333_333_333, 0),
-        (timed(3, 0, ONCE, NORMAL, Fill::Nothing), 2, 666_666_667, 0),
-        (
-            timed(1000, -500, ONCE, NORMAL, Fill::Nothing),
-            0,
-            500_000_000,
-            0,
-        ),
-        (timed(1000, 500, ONCE, NORMAL, Fill::Nothing), 500, 0, 0),
-        (
-            timed(1000, -1500, ENDLESS, NORMAL, Fill::Nothing),
-            0,
-            500_000_000,
-            1,
-        ),
-        (
-            timed(1000, 0, ENDLESS, TURNING, Fill::Nothing),
-            1_000_000,
-            0,
-            1000,
-        ),
-    ] {
+    for (duration, delay, count, direction, fill, t, value, iteration) in BETWEEN {
+        let row = timed(duration, delay, count, direction, fill);
         assert!(rt; is_given(rt.alloc(), row, t, Some((value, iteration))));
     }
 }
+
+/// The same before and after.
+const FILLED: [(u32, i32, Option<u32>, Direction, Fill, u32, i64, u64); 24] = [
+    (1000, 0, TWICE, TURNING, Fill::Both, 2500, 500_000_000, 2),
+    (1000, 1000, ONCE, NORMAL, Fill::Backwards, 500, 0, 0),
+    (1000, 1000, ONCE, REVERSE, Fill::Both, 500, END, 0),
+    (1000, 1000, ENDLESS, TURNED, Fill::Backwards, 0, END, 0),
+    (1000, 0, HALF, NORMAL, Fill::Forwards, 700, 500_000_000, 0),
+    (
+        1000,
+        0,
+        Some(250_000),
+        REVERSE,
+        Fill::Both,
+        700,
+        750_000_000,
+        0,
+    ),
+    (1000, 0, Some(0), NORMAL, Fill::Forwards, 0, 0, 0),
+    (1000, 0, Some(0), REVERSE, Fill::Both, 9, END, 0),
+    (
+        1000,
+        0,
+        Some(3_000_000),
+        NORMAL,
+        Fill::Forwards,
+        3000,
+        END,
+        2,
+    ),
+    (
+        1000,
+        0,
+        Some(3_000_000),
+        REVERSE,
+        Fill::Forwards,
+        9000,
+        0,
+        2,
+    ),
+    (
+        1000,
+        0,
+        Some(2_000_000),
+        TURNING,
+        Fill::Forwards,
+        2000,
+        0,
+        1,
+    ),
+    (1000, 0, Some(2_000_000), TURNED, Fill::Both, 2000, END, 1),
+    (1000, -500, ONCE, NORMAL, Fill::Forwards, 500, END, 0),
+    (1000, -3000, ONCE, NORMAL, Fill::Both, 0, END, 0),
+    (0, 0, ONCE, NORMAL, Fill::Forwards, 0, END, 0),
+    (0, 0, TWICE, NORMAL, Fill::Both, 5, 500_000_000, 2),
+    (0, 0, Some(2_000_000), TURNING, Fill::Forwards, 0, 0, 1),
+    (0, 0, Some(0), NORMAL, Fill::Forwards, 0, 0, 0),
+    (0, 1000, TWICE, NORMAL, Fill::Backwards, 0, 0, 0),
+    (0, 1000, TWICE, REVERSE, Fill::Both, 999, END, 0),
+    (0, 0, ENDLESS, NORMAL, Fill::Forwards, 0, END, 0),
+    (0, 0, ENDLESS, REVERSE, Fill::Forwards, 0, 0, 0),
+    (0, 0, ENDLESS, TURNING, Fill::Both, 7, END, 0),
+    (0, 0, ENDLESS, TURNED, Fill::Both, 7, END, 0),
+];
 
 #[test]
 fn progress_that_is_filled(rt: HostRuntime) {
-    let twice = Some(2_500_000);
-    for (row, t, value, iteration) in [
-        (
-            timed(1000, 0, twice, TURNING, Fill::Both),
-            2500,
-            500_000_000,
-            2,
-        ),
-        (timed(1000, 1000, ONCE, NORMAL, Fill::Backwards), 500, 0, 0),
-        (timed(1000, 1000, ONCE, REVERSE, Fill::Both), 500, END, 0),
-        (
-            timed(1000, 1000, ENDLESS, TURNED, Fill::Backwards),
-            0,
-            END,
-            0,
-        ),
-        (
-            timed(1000, 0, HALF, NORMAL, Fill::Forwards),
-            700,
-            500_000_000,
-            0,
-        ),
-        (
-            timed(1000, 0, Some(250_000), REVERSE, Fill::Both),
-            700,
-            750_000_000,
-            0,
-        ),
-        (timed(1000, 0, Some(0), NORMAL, Fill::Forwards), 0, 0, 0),
-        (timed(1000, 0, Some(0), REVERSE, Fill::Both), 9, END, 0),
-        (
-            timed(1000, 0, Some(3_000_000), NORMAL, Fill::Forwards),
-            3000,
-            END,
-            2,
-        ),
-        (
-            timed(1000, 0, Some(3_000_000), REVERSE, Fill::Forwards),
-            9000,
-            0,
-            2,
-        ),
-        (
-            timed(1000, 0, Some(2_000_000), TURNING, Fill::Forwards),
-            2000,
-            0,
-            1,
-        ),
-        (
-            timed(1000, 0, Some(2_000_000), TURNED, Fill::Both),
-            2000,
-            END,
-            1,
-        ),
-        (timed(1000, -500, ONCE, NORMAL, Fill::Forwards), 500, END, 0),
-        (timed(1000, -3000, ONCE, NORMAL, Fill::Both), 0, END, 0),
-        (timed(0, 0, ONCE, NORMAL, Fill::Forwards), 0, END, 0),
-        (timed(0, 0, twice, NORMAL, Fill::Both), 5, 500_000_000, 2),
-        (
-            timed(0, 0, Some(2_000_000), TURNING, Fill::Forwards),
-            0,
-            0,
-            1,
-        ),
-        (timed(0, 0, Some(0), NORMAL, Fill::Forwards), 0, 0, 0),
-        (timed(0, 1000, twice, NORMAL, Fill::Backwards), 0, 0, 0),
-        (timed(0, 1000, twice, REVERSE, Fill::Both), 999, END, 0),
-        (timed(0, 0, ENDLESS, NORMAL, Fill::Forwards), 0, END, 0),
-        (timed(0, 0, ENDLESS, REVERSE, Fill::Forwards), 0, 0, 0),
-        (timed(0, 0, ENDLESS, TURNING, Fill::Both), 7, END, 0),
-        (timed(0, 0, ENDLESS, TURNED, Fill::Both), 7, END, 0),
-    ] {
+    for (duration, delay, count, direction, fill, t, value, iteration) in FILLED {
+        let row = timed(duration, delay, count, direction, fill);
         assert!(rt; is_given(rt.alloc(), row, t, Some((value, iteration))));
     }
 }
 
+/// A timing, and a time at which it gives no progress.
+const UNFILLED: [(u32, i32, Option<u32>, Direction, Fill, u32); 6] = [
+    (1000, 1000, Some(2_500_000), TURNING, Fill::Nothing, 0),
+    (1000, 1000, ONCE, NORMAL, Fill::Forwards, 999),
+    (1000, 0, ONCE, NORMAL, Fill::Nothing, 1000),
+    (1000, 0, ONCE, NORMAL, Fill::Backwards, 1000),
+    (1000, 0, Some(0), NORMAL, Fill::Nothing, 0),
+    (0, 0, ENDLESS, NORMAL, Fill::Backwards, 0),
+];
+
 #[test]
 fn no_progress_where_nothing_fills(rt: HostRuntime) {
-    for (row, t) in [
-        (
-            timed(1000, 1000, Some(2_500_000), TURNING, Fill::Nothing),
-            0,
-        ),
-        (timed(1000, 1000, ONCE, NORMAL, Fill::Forwards), 999),
-        (timed(1000, 0, ONCE, NORMAL, Fill::Nothing), 1000),
-        (timed(1000, 0, ONCE, NORMAL, Fill::Backwards), 1000),
-        (timed(1000, 0, Some(0), NORMAL, Fill::Nothing), 0),
-        (timed(0, 0, ENDLESS, NORMAL, Fill::Backwards), 0),
-    ] {
+    for (duration, delay, count, direction, fill, t) in UNFILLED {
+        let row = timed(duration, delay, count, direction, fill);
         assert!(rt; is_given(rt.alloc(), row, t, None));
     }
 }
 
+/// A timing, a time, and the phase then.
+const PHASES: [(u32, i32, Option<u32>, Direction, Fill, u32, Phase); 9] = [
+    (1000, 500, ONCE, NORMAL, Fill::Nothing, 499, Phase::Before),
+    (1000, 500, ONCE, NORMAL, Fill::Nothing, 500, Phase::Active),
+    (1000, 500, ONCE, NORMAL, Fill::Nothing, 1499, Phase::Active),
+    (1000, 500, ONCE, NORMAL, Fill::Nothing, 1500, Phase::After),
+    (1000, -500, HALF, NORMAL, Fill::Nothing, 0, Phase::After),
+    (
+        1000,
+        500,
+        Some(0),
+        NORMAL,
+        Fill::Nothing,
+        499,
+        Phase::Before,
+    ),
+    (1000, 500, Some(0), NORMAL, Fill::Nothing, 500, Phase::After),
+    (0, 500, ENDLESS, NORMAL, Fill::Nothing, 500, Phase::After),
+    (
+        1000,
+        500,
+        ENDLESS,
+        NORMAL,
+        Fill::Nothing,
+        4_000_000_000,
+        Phase::Active,
+    ),
+];
+
 #[test]
 fn phases(rt: HostRuntime) {
-    for (row, t, phase) in [
-        (
-            timed(1000, 500, ONCE, NORMAL, Fill::Nothing),
-            499,
-            Phase::Before,
-        ),
-        (
-            timed(1000, 500, ONCE, NORMAL, Fill::Nothing),
-            500,
-            Phase::Active,
-        ),
-        (
-            timed(1000, 500, ONCE, NORMAL, Fill::Nothing),
-            1499,
-            Phase::Active,
-        ),
-        (
-            timed(1000, 500, ONCE, NORMAL, Fill::Nothing),
-            1500,
-            Phase::After,
-        ),
-        (
-            timed(1000, -500, HALF, NORMAL, Fill::Nothing),
-            0,
-            Phase::After,
-        ),
-        (
-            timed(1000, 500, Some(0), NORMAL, Fill::Nothing),
-            499,
-            Phase::Before,
-        ),
-        (
-            timed(1000, 500, Some(0), NORMAL, Fill::Nothing),
-            500,
-            Phase::After,
-        ),
-        (
-            timed(0, 500, ENDLESS, NORMAL, Fill::Nothing),
-            500,
-            Phase::After,
-        ),
-        (
-            timed(1000, 500, ENDLESS, NORMAL, Fill::Nothing),
-            4_000_000_000,
-            Phase::Active,
-        ),
-    ] {
+    for (duration, delay, count, direction, fill, t, phase) in PHASES {
+        let row = timed(duration, delay, count, direction, fill);
         let a = animation(rt.alloc(), timing(row));
         assert!(rt; phase_at(&a, millis(t)) == phase);
     }
@@ -329,39 +277,43 @@ fn pauses_and_runs_again(rt: HostRuntime) {
     assert!(rt; progress(&a, millis(1000)) == Some((400_000_000, 0)));
 }
 
+/// A timing, the time of a cancellation, and the elapsed time in microseconds.
+const ELAPSED: [(u32, i32, Option<u32>, Direction, Fill, u32, i64); 4] = [
+    (1000, 0, ONCE, NORMAL, Fill::Nothing, 200, 200_000),
+    (1000, 0, ONCE, REVERSE, Fill::Nothing, 5000, 1_000_000),
+    (1000, 800, ONCE, NORMAL, Fill::Nothing, 200, 0),
+    (1000, -800, ENDLESS, NORMAL, Fill::Nothing, 3000, 3_800_000),
+];
+
 #[test]
 fn elapsed_times_of_cancelled_ones(rt: HostRuntime) {
-    for (row, t, elapsed) in [
-        (timed(1000, 0, ONCE, NORMAL, Fill::Nothing), 200, 200_000),
-        (
-            timed(1000, 0, ONCE, REVERSE, Fill::Nothing),
-            5000,
-            1_000_000,
-        ),
-        (timed(1000, 800, ONCE, NORMAL, Fill::Nothing), 200, 0),
-        (
-            timed(1000, -800, ENDLESS, NORMAL, Fill::Nothing),
-            3000,
-            3_800_000,
-        ),
-    ] {
+    for (duration, delay, count, direction, fill, t, elapsed) in ELAPSED {
+        let row = timed(duration, delay, count, direction, fill);
         let a = animation(rt.alloc(), timing(row));
         assert!(rt; cancel_elapsed(&a, millis(t)).0 == elapsed);
     }
 }
 
+/// A timing and its active duration in microseconds.
+const LASTING: [(u32, i32, Option<u32>, Direction, Fill, Option<i128>); 5] = [
+    (
+        1000,
+        7,
+        Some(2_500_000),
+        NORMAL,
+        Fill::Nothing,
+        Some(2_500_000),
+    ),
+    (1, 7, Some(1_499), NORMAL, Fill::Nothing, Some(1)),
+    (1, 7, Some(1_500), NORMAL, Fill::Nothing, Some(2)),
+    (0, 7, ENDLESS, NORMAL, Fill::Nothing, Some(0)),
+    (1, 7, ENDLESS, NORMAL, Fill::Nothing, None),
+];
+
 #[test]
 fn active_durations(rt: HostRuntime) {
-    for (row, lasting) in [
-        (
-            timed(1000, 7, Some(2_500_000), NORMAL, Fill::Nothing),
-            Some(2_500_000),
-        ),
-        (timed(1, 7, Some(1_499), NORMAL, Fill::Nothing), Some(1)),
-        (timed(1, 7, Some(1_500), NORMAL, Fill::Nothing), Some(2)),
-        (timed(0, 7, ENDLESS, NORMAL, Fill::Nothing), Some(0)),
-        (timed(1, 7, ENDLESS, NORMAL, Fill::Nothing), None),
-    ] {
+    for (duration, delay, count, direction, fill, lasting) in LASTING {
+        let row = timed(duration, delay, count, direction, fill);
         assert!(rt; active_duration(timing(row)) == lasting);
     }
 }

@@ -15,6 +15,8 @@ mod events;
 #[cfg(test)]
 mod fading;
 #[cfg(test)]
+mod keyframe_samples;
+#[cfg(test)]
 mod matching;
 #[cfg(test)]
 mod starting;
