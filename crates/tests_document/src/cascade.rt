@@ -145,15 +145,6 @@ fn inherits(rt: HostRuntime) -> Result<(), Fail> {
     let two = undeclared(rt.alloc(), hidden)?;
     assert!(rt; two.value(PropertyId::Visibility) == hidden.visibility);
     assert!(rt; two.font_size() == Fix(8_000_000));
-    let three = undeclared(
-        rt.alloc(),
-        InheritedValues {
-            letter_spacing: pixels(1),
-            ..hidden
-        },
-    )?;
-    assert!(rt; three.value(PropertyId::LetterSpacing) == pixels(1));
-    assert!(rt; three.value(PropertyId::Visibility) == hidden.visibility);
     Ok(())
 }
 

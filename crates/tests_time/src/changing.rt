@@ -4,7 +4,7 @@ ghost use Rattle.style_data.specs.Kept.{IsKeptFor};
 ghost use Rattle.value_types.specs.declared.property.PropertyId.{PropertyId};
 ghost use Rattle.value_types.specs.declared.value.Value.{Value};
 
-use change_styles::{after_style, before_style, handed_down, now_style};
+use change_styles::before_style;
 use fix_num::{Bill, Fix, Micros};
 use std::alloc::{AllocError, Global};
 use std::test::Fail;
@@ -14,8 +14,6 @@ use style_data::{
 };
 use timing_types::Easing;
 use value_types::{Declared, PropertyId, Size, Unit, Value};
-
-const HALF: Micros = Micros(500_000);
 
 fn pixels(px: u8) -> Value
     ensures { result ≡ Value.Length (record { 0 = pos (px * 1000000) }) (record { 0 = pos 0 }) }
@@ -72,22 +70,5 @@ fn before_change_style_is_of_this_moment(rt: HostRuntime) -> Result<(), Fail> {
         let style = before_style(alloc, &entry, Micros(t), None, &NoSampling)?;
         assert!(rt; style.value(PropertyId::LetterSpacing) == pixels(px));
     }
-    Ok(())
-}
-
-#[test]
-fn child_inherits_from_the_style_of_the_same_kind(rt: HostRuntime) -> Result<(), Fail> {
-    let alloc = rt.alloc();
-    let spaced = spaced(alloc)?;
-    let running = running(alloc)?;
-    let after = after_style(alloc, &spaced, None, &NoSampling)?;
-    let now = now_style(alloc, &spaced, running.running(), HALF, None, &NoSampling)?;
-    let none = DeclaredSet::empty();
-    let parent = handed_down(&after, None);
-    let child = after_style(alloc, &none, Some(&parent), &NoSampling)?;
-    assert!(rt; child.value(PropertyId::LetterSpacing) == pixels(8));
-    let parent = handed_down(&now, None);
-    let child = now_style(alloc, &none, &[], HALF, Some(&parent), &NoSampling)?;
-    assert!(rt; child.value(PropertyId::LetterSpacing) == pixels(4));
     Ok(())
 }
