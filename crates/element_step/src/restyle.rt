@@ -7,7 +7,8 @@ ghost use Rattle.style_data.specs.Transitions.{IsMoment};
 ghost use Rattle.transition_update.specs.Updates.{all_cancelled, cancelled_by, style_change, transitions_after};
 ghost use Rattle.value_types.specs.Ranges.{IsSize};
 ghost use Rattle.element_step.specs.Rendering.{is_rendered};
-ghost use Rattle.element_step.specs.Updates.{before_parent, cancelled_from, cancelled_of, down_after, element_update, now_of, settled_after, transitions_from, transitions_of};
+ghost use Rattle.element_step.specs.Restyling.{IsRestyled};
+ghost use Rattle.element_step.specs.Updates.{before_parent, cancelled_from, element_update, transitions_from};
 
 use crate::downs::{after_parent, before_parent, is_changed, now_parent};
 use crate::rendering::is_rendered;
@@ -49,11 +50,7 @@ pub(crate) fn restyle<A: Sampling, B: Sampling>(
 ) -> Result<Restyled, AllocError>
     requires time { IsMoment event.time.0 }
     requires size { IfSome root_size IsSize }
-    ensures now { IfOk result (λ r. r.now ≡ now_of (element_update entry.now declared.now (option_copied parent.entry) (A.animated_value old.now) (B.animated_value new.now) animations.now root_size event)) }
-    ensures transitions { IfOk result (λ r. r.transitions ≡ transitions_of (element_update entry.now declared.now (option_copied parent.entry) (A.animated_value old.now) (B.animated_value new.now) animations.now root_size event)) }
-    ensures gone { IfOk result (λ r. r.gone.items ≡ cancelled_of (element_update entry.now declared.now (option_copied parent.entry) (A.animated_value old.now) (B.animated_value new.now) animations.now root_size event)) }
-    ensures settled { IfOk result (λ r. r.settled ≡ settled_after (element_update entry.now declared.now (option_copied parent.entry) (A.animated_value old.now) (B.animated_value new.now) animations.now root_size event)) }
-    ensures down { IfOk result (λ r. r.down ≡ down_after (element_update entry.now declared.now (option_copied parent.entry) (A.animated_value old.now) (B.animated_value new.now) animations.now root_size event)) }
+    ensures { IfOk result (λ r. IsRestyled (element_update entry.now declared.now (option_copied parent.entry) (A.animated_value old.now) (B.animated_value new.now) animations.now root_size event) r) }
 {
     if is_rendered(declared, parent) {
         restyle_rendered(
@@ -82,11 +79,7 @@ fn restyle_rendered<A: Sampling, B: Sampling>(
     requires rendered { IsTrue (is_rendered declared.now (option_copied parent)) }
     requires time { IsMoment event.time.0 }
     requires size { IfSome root_size IsSize }
-    ensures now { IfOk result (λ r. r.now ≡ now_of (element_update entry.now declared.now (option_copied parent.entry) (A.animated_value old.now) (B.animated_value new.now) animations.now root_size event)) }
-    ensures transitions { IfOk result (λ r. r.transitions ≡ transitions_of (element_update entry.now declared.now (option_copied parent.entry) (A.animated_value old.now) (B.animated_value new.now) animations.now root_size event)) }
-    ensures gone { IfOk result (λ r. r.gone.items ≡ cancelled_of (element_update entry.now declared.now (option_copied parent.entry) (A.animated_value old.now) (B.animated_value new.now) animations.now root_size event)) }
-    ensures settled { IfOk result (λ r. r.settled ≡ settled_after (element_update entry.now declared.now (option_copied parent.entry) (A.animated_value old.now) (B.animated_value new.now) animations.now root_size event)) }
-    ensures down { IfOk result (λ r. r.down ≡ down_after (element_update entry.now declared.now (option_copied parent.entry) (A.animated_value old.now) (B.animated_value new.now) animations.now root_size event)) }
+    ensures { IfOk result (λ r. IsRestyled (element_update entry.now declared.now (option_copied parent.entry) (A.animated_value old.now) (B.animated_value new.now) animations.now root_size event) r) }
 {
     let above_after = after_parent(parent);
     let after = after_style(alloc, declared, above_after.as_ref(), old)?;
@@ -206,11 +199,7 @@ fn restyle_unrendered<A: Sampling, B: Sampling>(
     requires rendered { IsFalse (is_rendered declared.now (option_copied parent)) }
     requires time { IsMoment event.time.0 }
     requires size { IfSome root_size IsSize }
-    ensures now { IfOk result (λ r. r.now ≡ now_of (element_update entry.now declared.now (option_copied parent.entry) (A.animated_value old.now) (B.animated_value new.now) animations.now root_size event)) }
-    ensures transitions { IfOk result (λ r. r.transitions ≡ transitions_of (element_update entry.now declared.now (option_copied parent.entry) (A.animated_value old.now) (B.animated_value new.now) animations.now root_size event)) }
-    ensures gone { IfOk result (λ r. r.gone.items ≡ cancelled_of (element_update entry.now declared.now (option_copied parent.entry) (A.animated_value old.now) (B.animated_value new.now) animations.now root_size event)) }
-    ensures settled { IfOk result (λ r. r.settled ≡ settled_after (element_update entry.now declared.now (option_copied parent.entry) (A.animated_value old.now) (B.animated_value new.now) animations.now root_size event)) }
-    ensures down { IfOk result (λ r. r.down ≡ down_after (element_update entry.now declared.now (option_copied parent.entry) (A.animated_value old.now) (B.animated_value new.now) animations.now root_size event)) }
+    ensures { IfOk result (λ r. IsRestyled (element_update entry.now declared.now (option_copied parent.entry) (A.animated_value old.now) (B.animated_value new.now) animations.now root_size event) r) }
 {
     let above = now_parent(parent);
     let now = now_style(

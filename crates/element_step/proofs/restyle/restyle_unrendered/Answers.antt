@@ -6,37 +6,23 @@ use Rattle.element_step.proofs.Rendered.{cancelled_unrendered, down_is, handed_a
 use Rattle.element_step.proofs.restyle.restyle_unrendered.Goals as goal
 use Rattle.element_step.specs.Updates.{changed_from, element_update, handed_now, now_of, now_parent}
 
-pub returns-clause-now : goal.returns-clause-now
-returns-clause-now g c =
-    let x = element_update c.args.entry.now c.args.declared.now (option_copied c.args.parent) (g.A.Sampling.animated_value c.args.old.now) (g.B.Sampling.animated_value c.args.new.now) c.args.animations.now c.args.root_size c.args.event in
-    c.in_ok-now.ensures ∙ ap (current_style x.declared no_animations [] x.event.time.0) (c.as_ref.ensures.value ∙ c.now_parent-above.ensures)
-    ∙ sym (now_unrendered x c.requires.rendered)
-
-pub returns-clause-transitions : goal.returns-clause-transitions
-returns-clause-transitions g c =
-    let x = element_update c.args.entry.now c.args.declared.now (option_copied c.args.parent) (g.A.Sampling.animated_value c.args.old.now) (g.B.Sampling.animated_value c.args.new.now) c.args.animations.now c.args.root_size c.args.event in
-    c.new.ensures ∙ sym (transitions_unrendered x c.requires.rendered)
-
-pub returns-clause-gone : goal.returns-clause-gone
-returns-clause-gone g c =
-    let x = element_update c.args.entry.now c.args.declared.now (option_copied c.args.parent) (g.A.Sampling.animated_value c.args.old.now) (g.B.Sampling.animated_value c.args.new.now) c.args.animations.now c.args.root_size c.args.event in
-    c.in_ok-gone.ensures ∙ sym (cancelled_unrendered x c.requires.rendered)
-
-pub returns-clause-settled : goal.returns-clause-settled
-returns-clause-settled g c =
-    let x = element_update c.args.entry.now c.args.declared.now (option_copied c.args.parent) (g.A.Sampling.animated_value c.args.old.now) (g.B.Sampling.animated_value c.args.new.now) c.args.animations.now c.args.root_size c.args.event in
-    c.have_ended.ensures ∙ settled_unrendered x c.requires.rendered
-
-pub returns-clause-down : goal.returns-clause-down
-returns-clause-down g c =
-    let x = element_update c.args.entry.now c.args.declared.now (option_copied c.args.parent) (g.A.Sampling.animated_value c.args.old.now) (g.B.Sampling.animated_value c.args.new.now) c.args.animations.now c.args.root_size c.args.event in
+pub returns : goal.returns
+returns g c =
+    let x = element_update c.args.entry.now c.args.declared.now (option_copied c.args.parent) (g.A.Sampling.animated_value c.args.old.now)
+    (g.B.Sampling.animated_value c.args.new.now) c.args.animations.now c.args.root_size c.args.event in
+    let isnt = c.requires.rendered in
+    let above = c.now_parent-above.ensures in
     let handed = c.handed_down-handed.result in
     let now_is : c.in_ok-now.now ≡ now_of x =
-    c.in_ok-now.ensures ∙ ap (current_style x.declared no_animations [] x.event.time.0) (c.as_ref.ensures.value ∙ c.now_parent-above.ensures)
-    ∙ sym (now_unrendered x c.requires.rendered) in
+    c.in_ok-now.ensures ∙ ap (current_style x.declared no_animations [] x.event.time.0) (c.as_ref.ensures.value ∙ above) ∙ sym (now_unrendered x isnt) in
     let handed_is : handed ≡ handed_now x =
-    c.handed_down-handed.ensures ∙ ap (λ p. handed_down p c.in_ok-now.now) (c.as_ref-2.ensures.value ∙ c.now_parent-above.ensures)
-    ∙ ap (handed_down (now_parent x.parent)) now_is in
-    down_is x c.in_ok-before.before handed handed false c.is_changed-changed.result c.in_ok-before.ensures
-    (handed_is ∙ handed_after_unrendered x c.requires.rendered) handed_is (sym c.requires.rendered)
-    (c.is_changed-changed.ensures ∙ ap (λ b. changed_from x.entry x.root_size b handed handed false) c.as_ref-3.ensures.value)
+    c.handed_down-handed.ensures ∙ ap (λ p. handed_down p c.in_ok-now.now) (c.as_ref-2.ensures.value ∙ above) ∙ ap (handed_down (now_parent x.parent)) now_is in
+    record {
+      now = now_is;
+      transitions = c.new.ensures ∙ sym (transitions_unrendered x isnt);
+      gone = c.in_ok-gone.ensures ∙ sym (cancelled_unrendered x isnt);
+      settled = c.have_ended.ensures ∙ settled_unrendered x isnt;
+      down =
+          down_is x c.in_ok-before.before handed handed false c.is_changed-changed.result c.in_ok-before.ensures (handed_is ∙ handed_after_unrendered x isnt)
+          handed_is (sym isnt) (c.is_changed-changed.ensures ∙ ap (λ b. changed_from x.entry x.root_size b handed handed false) c.as_ref-3.ensures.value);
+    }
