@@ -3,4 +3,5 @@ pub mod Last
 pub mod PropertyKeyframes
 pub mod SampleLists
 pub mod SampleProps
+pub mod SamplesIn
 pub mod Validity

@@ -4,6 +4,7 @@ ghost use Rattle.value_types.specs.Ranges.{IsSize};
 ghost use Rattle.value_types.specs.Validity.{IsValid};
 ghost use Rattle.keyframes.specs.Last.{last_given};
 ghost use Rattle.keyframes.specs.SampleLists.{value_given_by, value_of_samples};
+ghost use Rattle.keyframes.specs.SamplesIn.{samples_in};
 
 use crate::animation_sample::AnimationSample;
 use crate::sampled::Sampled;
@@ -16,17 +17,17 @@ use value_types::{PropertyId, Value};
 impl Sampled {
     /// No sample. Takes no memory.
     pub fn new(alloc: Global) -> Sampled
-        ensures { result.samples ≡ [] }
+        ensures { samples_in result ≡ [] }
     {
         Sampled {
             samples: Items::new(alloc),
         }
     }
 
-    /// Puts the sample of the next animation behind the others; where memory runs out the samples stay as they were.
+    /// Puts the sample of the next animation after the others; where memory runs out the samples stay as they were.
     pub fn push(&mut self, sample: AnimationSample) -> Result<(), AllocError>
-        ensures ok { OnOk result (self.new.samples ≡ self.old.samples ++ sample ∷ []) }
-        ensures err { OnErr result (self.new.samples ≡ self.old.samples) }
+        ensures ok { OnOk result (samples_in self.new ≡ samples_in self.old ++ sample ∷ []) }
+        ensures err { OnErr result (samples_in self.new ≡ samples_in self.old) }
     {
         // That what it gives is valid is known once it is read.
         let _parts = sample.get();
@@ -36,7 +37,7 @@ impl Sampled {
 }
 
 impl Sampling for Sampled {
-    ghost animated_value = { λ s p parent own root under. value_of_samples s.samples p parent own root under };
+    ghost animated_value = { λ s p parent own root under. value_of_samples (samples_in s) p parent own root under };
 
     ghost valid = { λ s p parent own root under a b c d. s.valid p parent own root under a b c d };
 

@@ -16,3 +16,8 @@ pub mod KeyframesReadings
 pub mod SheetLemmas
 pub mod StyleReadings
 pub mod SheetReadings
+pub mod AfterRuns
+pub mod Joining
+pub mod Unknown
+pub mod AlikeTokens
+pub mod AlikeRules

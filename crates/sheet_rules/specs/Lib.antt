@@ -1,5 +1,7 @@
 pub mod Faults
 pub mod Scanning
+pub mod Alike
+pub mod Moving
 pub mod Pairing
 pub mod Declarations
 pub mod Blocks

@@ -102,15 +102,14 @@ fn fault_at(name: KnownName, at: u32, fault: ValueFault) -> CssFault
 /// Declares all longhands with one importance at one place.
 fn append(
     found: &mut Vec<Declaration>,
-    mut longhands: Vec<Longhand>,
+    longhands: Vec<Longhand>,
     important: bool,
     place: u32,
 ) -> Result<(), AllocError>
     requires { All IsLonghand longhands.items }
     ensures { OnOk result (found.new.items ≡ found.old.items ++ map (declaration_of place important) longhands.items) }
 {
-    while !longhands.is_empty() {
-        let longhand = longhands.remove(0);
+    for longhand in longhands {
         found.push(Declaration::new(DeclarationParts {
             longhand,
             important,

@@ -1,11 +1,11 @@
 //! Keyframes rules as they are written.
-ghost use Rattle.std.specs.Prelude.{◌≡◌, ◌≤◌, [], ◌∷◌, All, IfOk, OnOk, length, option_map};
+ghost use Rattle.std.specs.Prelude.{◌≡◌, ◌≤◌, [], ◌∷◌, ◌++◌, All, IfOk, OnOk, length, option_map};
 ghost use Rattle.css_token.specs.TokenLists.{IsTokenOf};
 ghost use Rattle.token_parts.specs.Parts.{token_parts_of};
 ghost use Rattle.value_types.specs.Keyframes.{IsFrames};
 ghost use Rattle.sheet_rules.specs.Faults.{Gives};
 ghost use Rattle.sheet_rules.specs.Frames.{IsOffset};
-ghost use Rattle.sheet_rules.specs.Keyframes.{after_close, frame_at, frames_at, keyframes_after, keyframes_at, lone_word, named, offsets_in, supported, wanted};
+ghost use Rattle.sheet_rules.specs.Keyframes.{after_close, frame_at, frames_at, keyframes_after, keyframes_at, keyframes_rule, lone_word, named, offsets_in, supported, wanted};
 ghost use Rattle.sheet_rules.specs.Declarations.{solid};
 
 use crate::block::block_at;
@@ -18,10 +18,10 @@ use crate::scan::{after_brace, after_spaces, front, place_of, prelude_len};
 use css_token::{Kind, Token};
 use fix_num::Bill;
 use sheet_types::KeyframesRule;
-use std::alloc::Global;
+use std::alloc::{AllocError, Global};
 use timing_types::Name;
 use token_parts::parts;
-use value_types::{Frame, Frames};
+use value_types::{Frame, Frames, Shared};
 
 /// How many offsets the frames of a rule may have.
 const MOST: u32 = 64;
@@ -170,15 +170,30 @@ pub(crate) fn keyframes_at<'a>(
     let name = name_in(alloc, at, text, front(tokens, count))?;
     let mut frames = Vec::new(alloc);
     let rest = frames_at(alloc, &mut frames, text, after_brace(tokens, count))?;
-    let rule = KeyframesRule {
-        name,
-        frames: Frames::from_vec(frames),
-        place,
-    };
-    match found.push(rule) {
+    match push_rule(alloc, found, name, frames, place) {
         Ok(()) => Ok(rest),
         Err(_) => Err(CssFault::NoMemory),
     }
+}
+
+/// Puts a keyframes rule after the others.
+fn push_rule(
+    alloc: Global,
+    found: &mut Vec<KeyframesRule>,
+    name: Name,
+    frames: Vec<Frame>,
+    place: u32,
+) -> Result<(), AllocError>
+    requires { IsFrames frames.items }
+    ensures { OnOk result (found.new.items ≡ found.old.items ++ keyframes_rule name frames.items place ∷ []) }
+{
+    let frames = Shared::new(alloc, Frames::from_vec(frames))?;
+    found.push(KeyframesRule {
+        name,
+        frames,
+        place,
+    })?;
+    Ok(())
 }
 
 /// The name of a keyframes rule, which is one word; it is told at the place.

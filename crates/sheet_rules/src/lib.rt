@@ -18,7 +18,8 @@ pub use block_kind::BlockKind;
 pub use fault::{BoundName, CssFault};
 pub use laws::{
     a_sheet_or_a_fault, a_style_or_a_fault, block_reading_is_exact, later_frames_win,
-    sheet_reading_is_exact, style_reading_is_exact, values_pair,
+    sheet_reading_is_exact, sheets_join, style_reading_is_exact,
+    unknown_declarations_can_be_cut_out, values_pair, white_space_counts_once,
 };
 pub use sheet_reader::{read_sheet, read_style};
 pub use sheet_types::{

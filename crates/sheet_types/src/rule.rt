@@ -3,7 +3,7 @@
 use crate::declaration::Declaration;
 use selectors_mini::Selector;
 use timing_types::{Items, Name};
-use value_types::Frames;
+use value_types::{Frames, Shared};
 
 /// A style rule (CSS Syntax 3, "qualified rule"): what its selectors match gets its declarations.
 #[derive(Drop)]
@@ -18,7 +18,8 @@ pub struct Rule {
 #[derive(Drop)]
 pub struct KeyframesRule {
     pub name: Name,
-    pub frames: Frames,
+    /// Its frames, which the samples of animations share.
+    pub frames: Shared<Frames>,
     /// Its place among the sheet's rules, from 0.
     pub place: u32,
 }
