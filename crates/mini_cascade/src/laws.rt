@@ -39,7 +39,7 @@ pub fn inherits_by_the_table()
 {}
 
 /// Where transitions give no font size, a style is that without transitions, with their values laid over it.
-pub fn transitions_lie_on_top()
+pub fn transitions_take_precedence()
     ensures { (x : StyleSources) → kept_for PropertyId.FontSize x.transitioned ≡ None
         → computed_style x ≡ style_with (computed_style (with_transitioned x [])) x.transitioned }
 {}

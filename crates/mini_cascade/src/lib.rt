@@ -11,6 +11,7 @@ mod values;
 
 pub use laws::{
     computed_styles_are_valid, declarations_are_apart, inherits_by_the_table,
-    transitions_lie_on_top,
+    transitions_take_precedence,
 };
+pub use lists::animation_lists;
 pub use style::compute;

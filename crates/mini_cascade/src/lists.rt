@@ -36,7 +36,7 @@ pub(crate) fn transition_lists(
 }
 
 /// The lists that time animations; `None`, which takes no memory, where none of them is declared.
-pub(crate) fn animation_lists(
+pub fn animation_lists(
     alloc: Global,
     d: &DeclaredSet,
 ) -> Result<Option<Shared<AnimationLists>>, AllocError>

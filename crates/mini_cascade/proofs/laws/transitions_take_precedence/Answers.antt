@@ -1,5 +1,5 @@
 use Rattle.mini_cascade.proofs.CascadeLemmas.{style-on_top}
-use Rattle.mini_cascade.proofs.laws.transitions_lie_on_top.Goals as goal
+use Rattle.mini_cascade.proofs.laws.transitions_take_precedence.Goals as goal
 
 pub returns : goal.returns
 returns c = style-on_top
