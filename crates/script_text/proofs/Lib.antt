@@ -1,0 +1,14 @@
+pub mod FormLemmas
+pub mod NumberLemmas
+pub mod WordLemmas
+pub mod NameLemmas
+pub mod TrimLemmas
+pub mod OrderLemmas
+pub mod TextLemmas
+pub mod SolidLemmas
+pub mod SoundLemmas
+pub mod TimeLemmas
+pub mod CompleteLemmas
+pub mod BoundLemmas
+pub mod CommandLemmas
+pub mod LineLemmas
