@@ -1,0 +1,11 @@
+pub mod Orders
+pub mod Keeping
+pub mod Collecting
+pub mod Members
+pub mod Standing
+pub mod Candidates
+pub mod Putting
+pub mod Told
+pub mod KeptWinners
+pub mod WinnerLaws
+pub mod Unmatched

@@ -1,0 +1,5 @@
+pub mod Lexicographic
+pub mod Precedences
+pub mod Applying
+pub mod Winning
+pub mod Finding
