@@ -1,0 +1,13 @@
+pub mod Again
+pub mod Changes
+pub mod Courses
+pub mod Differ
+pub mod InPlace
+pub mod Kept
+pub mod Pairs
+pub mod Passed
+pub mod Rebuilt
+pub mod Seeing
+pub mod Steps
+pub mod TickKeys
+pub mod Times
