@@ -16,7 +16,7 @@ use Rattle.transition_update.specs.Updates.{all_cancelled}
 use Rattle.value_types.specs.Properties.{all_properties}
 use Rattle.value_types.specs.declared.property.PropertyId.{PropertyId}
 use Rattle.element_step.specs.Settling.{has_ended, have_same_values}
-use Rattle.element_step.specs.Updates.{ElementUpdate, after_of, after_parent, cancelled_from, cancelled_of, change_in, changed_from, down_after, entry_after, handed_after, handed_before, handed_now, now_of, now_parent, rendered_after, settled_after, transitions_from, transitions_of}
+use Rattle.element_step.specs.Updates.{ElementUpdate, after_of, after_parent, cancelled_from, cancelled_of, change_in, down_after, down_with, entry_after, handed_after, handed_before, handed_now, now_of, now_parent, rendered_after, settled_after, transitions_from, transitions_of}
 
 -- ---- rendered
 
@@ -81,25 +81,13 @@ settled_unrendered x is =
 
 -- ---- what is handed down
 
-down_with : ElementUpdate → Option InheritedValues → InheritedValues → InheritedValues → Bool → Down
-down_with x before after now rendered = record {
-  before = before;
-  after = after;
-  now = now;
-  rendered = rendered;
-  changed = changed_from x.entry x.root_size before after now rendered;
-}
-
-made : Option InheritedValues → InheritedValues → InheritedValues → Bool → Bool → Down
-made before after now rendered changed = record { before = before; after = after; now = now; rendered = rendered; changed = changed }
-
-pub down_is : (x : ElementUpdate) (before : Option InheritedValues) (after now : InheritedValues) (rendered changed : Bool) → before ≡ handed_before x → after ≡ handed_after x
-    → now ≡ handed_now x → rendered ≡ rendered_after x → changed ≡ changed_from x.entry x.root_size before after now rendered
-    → record { before = before; after = after; now = now; rendered = rendered; changed = changed } ≡ down_after x
-unfolding down_after down_with made
-down_is x before after now rendered changed b a n r h =
-    ap (λ (v : Bool). made before after now rendered v) h ∙ ap (λ v. down_with x v after now rendered) b ∙ ap (λ v. down_with x (handed_before x) v now rendered) a
-    ∙ ap (λ v. down_with x (handed_before x) (handed_after x) v rendered) n ∙ ap (down_with x (handed_before x) (handed_after x) (handed_now x)) r
+pub down_is : (x : ElementUpdate) (before : Option InheritedValues) (after now : InheritedValues) (rendered : Bool) → before ≡ handed_before x → after ≡ handed_after x
+    → now ≡ handed_now x → rendered ≡ rendered_after x → down_with x.entry x.root_size before after now rendered ≡ down_after x
+unfolding down_after
+down_is x before after now rendered b a n r =
+    ap (λ v. down_with x.entry x.root_size v after now rendered) b ∙ ap (λ v. down_with x.entry x.root_size (handed_before x) v now rendered) a
+    ∙ ap (λ v. down_with x.entry x.root_size (handed_before x) (handed_after x) v rendered) n
+    ∙ ap (down_with x.entry x.root_size (handed_before x) (handed_after x) (handed_now x)) r
 
 pub handed_after_rendered : (x : ElementUpdate) → rendered_after x ≡ true
     → handed_down (after_parent x.parent) (after_change_style x.declared x.old (after_parent x.parent)) ≡ handed_after x

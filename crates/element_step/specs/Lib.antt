@@ -2,3 +2,4 @@ pub mod Rendering
 pub mod Restyling
 pub mod Settling
 pub mod Updates
+pub mod Works

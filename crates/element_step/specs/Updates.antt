@@ -133,11 +133,15 @@ changed_from entry root_size before after now rendered =
     not entry.styled || option_map_or (differs (handed_last entry root_size)) before false || differs (handed_last entry root_size) after
     || differs (handed_last entry root_size) now || not (beq rendered entry.rendered)
 
-unfoldable pub down_after : ElementUpdate → Down
-down_after x = record {
-  before = handed_before x;
-  after = handed_after x;
-  now = handed_now x;
-  rendered = rendered_after x;
-  changed = changed_from x.entry x.root_size (handed_before x) (handed_after x) (handed_now x) (rendered_after x);
+-- what an element hands down of these
+unfoldable pub down_with : EntryParts → Option Fix → Option InheritedValues → InheritedValues → InheritedValues → Bool → Down
+down_with entry root_size before after now rendered = record {
+  before = before;
+  after = after;
+  now = now;
+  rendered = rendered;
+  changed = changed_from entry root_size before after now rendered;
 }
+
+unfoldable pub down_after : ElementUpdate → Down
+down_after x = down_with x.entry x.root_size (handed_before x) (handed_after x) (handed_now x) (rendered_after x)

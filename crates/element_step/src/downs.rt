@@ -5,7 +5,7 @@ ghost use Rattle.computed_style.specs.Styles.{inherited_of};
 ghost use Rattle.value_types.specs.Ranges.{IsSize};
 ghost use Rattle.element_step.specs.Settling.{is_same_inherited};
 ghost use Rattle.std.specs.Option.{option_map_or};
-ghost use Rattle.element_step.specs.Updates.{after_parent, before_parent, changed_from, differs, now_parent};
+ghost use Rattle.element_step.specs.Updates.{after_parent, before_parent, changed_from, differs, down_with, now_parent};
 
 use fix_num::Fix;
 use interpolation::same;
@@ -52,9 +52,30 @@ fn handed_last(now: &Style, root_size: Option<Fix>) -> Option<Inherited>
     }
 }
 
+/// What an element hands down of its three styles, none of the before-change style where it wasn't rendered before.
+pub(crate) fn hand_down(
+    entry: &Entry,
+    root_size: Option<Fix>,
+    before: Option<Inherited>,
+    after: Inherited,
+    now: Inherited,
+    rendered: bool,
+) -> Down
+    requires { IfSome root_size IsSize }
+    ensures { result ≡ down_with entry.now root_size before after now rendered }
+{
+    Down {
+        before,
+        after,
+        now,
+        rendered,
+        changed: is_changed(entry, root_size, before.as_ref(), after, now, rendered),
+    }
+}
+
 /// Whether the elements below have to be updated for the element's sake: no frame had styled it, one of its styles hands
 /// down something else than its current style did, or it is rendered now and wasn't, or was and isn't.
-pub(crate) fn is_changed(
+fn is_changed(
     entry: &Entry,
     root_size: Option<Fix>,
     before: Option<&Inherited>,

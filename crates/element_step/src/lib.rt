@@ -1,8 +1,8 @@
-//! Floor: element and frame. Knows one element's entry, its declarations and animations at one style change event and what
-//! its parent hands down, and no tree, no sheet and no thread.
+//! Floor: element and frame. Knows one element's entry at one style change event, what its parent hands down, the document and
+//! its sheets, and no thread.
 //!
-//! The update of an element at a style change event: `update_entry(alloc, &entry, declared, parent, &old, &new, paired,
-//! root_size, event)?` is its new entry and what it hands down.
+//! The update of an element at a style change event: `update_element(alloc, &work, n, &entry, &down)?` is its new entry and what
+//! it hands down, where `work` is the event of a document; `update_entry` is the same over declarations and animations.
 #![tactic(auto)]
 
 mod downs;
@@ -11,7 +11,9 @@ mod rendering;
 mod restyle;
 mod settling;
 mod update;
+mod work;
 
 pub use laws::transitions_want_rendering;
 pub use rendering::is_rendered;
-pub use update::{ElementUpdated, Paired, update_entry};
+pub use update::{ElementUpdated, update_entry};
+pub use work::{ElementWork, settled, update_element};

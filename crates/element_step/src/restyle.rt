@@ -10,7 +10,7 @@ ghost use Rattle.element_step.specs.Rendering.{is_rendered};
 ghost use Rattle.element_step.specs.Restyling.{IsRestyled};
 ghost use Rattle.element_step.specs.Updates.{before_parent, cancelled_from, element_update, transitions_from};
 
-use crate::downs::{after_parent, before_parent, is_changed, now_parent};
+use crate::downs::{after_parent, before_parent, hand_down, now_parent};
 use crate::rendering::is_rendered;
 use crate::settling::{have_ended, is_settled};
 use change_styles::{after_style, before_style, handed_down, now_style};
@@ -102,21 +102,7 @@ fn restyle_rendered<A: Sampling, B: Sampling>(
         gone,
         before,
     } = changes;
-    let changed = is_changed(
-        entry,
-        root_size,
-        before.as_ref(),
-        handed_after,
-        handed_now,
-        true,
-    );
-    let down = Down {
-        before,
-        after: handed_after,
-        now: handed_now,
-        rendered: true,
-        changed,
-    };
+    let down = hand_down(entry, root_size, before, handed_after, handed_now, true);
     Ok(Restyled {
         now,
         transitions,
@@ -213,14 +199,7 @@ fn restyle_unrendered<A: Sampling, B: Sampling>(
     let gone = cancel_kept(alloc, entry, event)?;
     let handed = handed_down(&now, above.as_ref());
     let before = before_handed(alloc, entry, parent, old, event)?;
-    let changed = is_changed(entry, root_size, before.as_ref(), handed, handed, false);
-    let down = Down {
-        before,
-        after: handed,
-        now: handed,
-        rendered: false,
-        changed,
-    };
+    let down = hand_down(entry, root_size, before, handed, handed, false);
     Ok(Restyled {
         now,
         transitions: Transitions::new(alloc),

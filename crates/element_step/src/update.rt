@@ -8,17 +8,11 @@ ghost use Rattle.element_step.specs.Updates.{down_after, element_update, entry_a
 
 use crate::rendering::is_rendered;
 use crate::restyle::{Restyled, restyle};
+use animation_names::Paired;
 use fix_num::Fix;
 use std::alloc::{AllocError, Global};
-use style_data::{Animation, DeclaredSet, Down, Effects, Entry, Gone, Sampling};
+use style_data::{DeclaredSet, Down, Effects, Entry, Gone, Sampling};
 use transition_update::StyleChangeEvent;
-
-/// The animations of an element after a style change event, by their places, and those that ended at it.
-#[derive(Drop)]
-pub struct Paired {
-    pub animations: Vec<Animation>,
-    pub gone: Vec<Gone>,
-}
 
 /// An element after a style change event.
 #[derive(Drop)]

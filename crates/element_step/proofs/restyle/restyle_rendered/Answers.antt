@@ -8,7 +8,7 @@ use Rattle.transition_update.specs.Updates.{StyleChange, style_change}
 use Rattle.element_step.proofs.Rendered.{after_rendered, cancelled_rendered, down_is, handed_after_rendered, now_rendered, settled_is, transitions_rendered}
 use Rattle.element_step.proofs.restyle.restyle_rendered.Goals as goal
 use Rattle.element_step.specs.Settling.{has_ended, have_same_values}
-use Rattle.element_step.specs.Updates.{after_parent, before_parent, cancelled_from, changed_from, element_update, handed_after, handed_now, now_of, now_parent, transitions_from, transitions_of}
+use Rattle.element_step.specs.Updates.{after_parent, before_parent, cancelled_from, element_update, handed_after, handed_now, now_of, now_parent, transitions_from, transitions_of}
 
 pub returns : goal.returns
 returns g c =
@@ -46,8 +46,7 @@ returns g c =
           c.running-running.ensures.value
           ∙ settled_is x changes.transitions c.in_ok-after.after c.in_ok-now.now transitions_is (after_is ∙ sym (after_rendered x is)) now_is;
       down =
-          down_is x changes.before c.handed_down-handed_after.result c.handed_down-handed_now.result true c.is_changed-changed.result
-          c.in_ok-changes.ensures.before handed_after_is handed_now_is (sym is)
-          (c.is_changed-changed.ensures
-          ∙ ap (λ b. changed_from x.entry x.root_size b c.handed_down-handed_after.result c.handed_down-handed_now.result true) c.as_ref-5.ensures.value);
+          c.hand_down-down.ensures
+          ∙ down_is x changes.before c.handed_down-handed_after.result c.handed_down-handed_now.result true c.in_ok-changes.ensures.before handed_after_is
+          handed_now_is (sym is);
     }

@@ -4,7 +4,7 @@ use Rattle.change_styles.specs.Inheritance.{handed_down}
 use Rattle.change_styles.specs.ThreeStyles.{current_style, no_animations}
 use Rattle.element_step.proofs.Rendered.{cancelled_unrendered, down_is, handed_after_unrendered, now_unrendered, settled_unrendered, transitions_unrendered}
 use Rattle.element_step.proofs.restyle.restyle_unrendered.Goals as goal
-use Rattle.element_step.specs.Updates.{changed_from, element_update, handed_now, now_of, now_parent}
+use Rattle.element_step.specs.Updates.{element_update, handed_now, now_of, now_parent}
 
 pub returns : goal.returns
 returns g c =
@@ -23,6 +23,6 @@ returns g c =
       gone = c.in_ok-gone.ensures ∙ sym (cancelled_unrendered x isnt);
       settled = c.have_ended.ensures ∙ settled_unrendered x isnt;
       down =
-          down_is x c.in_ok-before.before handed handed false c.is_changed-changed.result c.in_ok-before.ensures (handed_is ∙ handed_after_unrendered x isnt)
-          handed_is (sym isnt) (c.is_changed-changed.ensures ∙ ap (λ b. changed_from x.entry x.root_size b handed handed false) c.as_ref-3.ensures.value);
+          c.hand_down-down.ensures
+          ∙ down_is x c.in_ok-before.before handed handed false c.in_ok-before.ensures (handed_is ∙ handed_after_unrendered x isnt) handed_is (sym isnt);
     }

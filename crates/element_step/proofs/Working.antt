@@ -1,0 +1,75 @@
+-- An element's update in the event of a document, from its parts.
+use Rattle.std.proofs.Common.{◌≡◌, ◌∙◌, refl, ap, arith, ℕ, Bool, true, false, List, [], ◌∷◌, length, Option}
+use Rattle.std.specs.Prelude.{◌==◌}
+use Rattle.std.proofs.lemmas.Bool.{eqb-true}
+use Rattle.animation_names.specs.NameLists.{names_update}
+use Rattle.animation_names.specs.Numbered.{given_below}
+use Rattle.animation_names.specs.Updates.{animations_after, gone_after, paired_of}
+use Rattle.computed_style.specs.ComputedStyles.{AnimatedValues}
+use Rattle.computed_style.specs.Winners.{Declarations}
+use Rattle.computed_style.specs.declared.inherited.Down.{Down}
+use Rattle.doc_tree.specs.Element.{is_in}
+use Rattle.fix_num.specs.declared.units.Fix.{Fix}
+use Rattle.fix_num.specs.declared.units.Micros.{Micros}
+use Rattle.pass_core.specs.declared.step.Step.TheVariants.{Kept, Updated}
+use Rattle.sheet_types.specs.Sheets.{SheetRules}
+use Rattle.style_data.specs.Entries.{EntryParts}
+use Rattle.style_data.specs.declared.animation.AnimationState.{AnimationState}
+use Rattle.timing_types.specs.TimingLists.{AnimationValues, initial_animations}
+use Rattle.transition_update.specs.declared.event.StyleChangeEvent.{StyleChangeEvent}
+use Rattle.element_step.specs.Rendering.{is_rendered}
+use Rattle.element_step.specs.Updates.{ElementUpdate, element_update}
+use Rattle.element_step.specs.Works.{DocumentEvent, animated_values_in, animation_lists_after, animations_before, animations_updated, element_declarations, handed_by, entry_at, event_at, from_parent, outcome_in, paired_at, update_at}
+
+-- ---- animations
+
+pub paired_is : (w : DocumentEvent) (event : StyleChangeEvent) (rendered : Bool) (entry : EntryParts) (d : Declarations) (before : List AnimationState) (lists : AnimationValues) (sheets : List (Option SheetRules))
+    → before ≡ animations_before rendered entry → lists ≡ animation_lists_after rendered d → sheets ≡ w.sheets
+    → paired_of before lists sheets event.time event.generation event.position ≡ animations_updated w event rendered entry d
+unfolding animations_updated
+paired_is w event rendered entry d before lists sheets b l s =
+    ap (λ v. paired_of v lists sheets event.time event.generation event.position) b
+    ∙ ap (λ v. paired_of (animations_before rendered entry) v sheets event.time event.generation event.position) l
+    ∙ ap (λ v. paired_of (animations_before rendered entry) (animation_lists_after rendered d) v event.time event.generation event.position) s
+
+-- where there is no animation and no name, there is none after the event
+pub nothing_paired : (sheets : List (Option SheetRules)) (time : Micros) (generation position : ℕ) → paired_of [] initial_animations sheets time generation position ≡ record { animations = []; gone = [] }
+unfolding animations_after gone_after given_below
+nothing_paired sheets time generation position = refl
+
+-- ---- the update
+
+pub update_is : (w : DocumentEvent) (n : ℕ) (entry : EntryParts) (parent : Option Down) (d : Declarations) (old new : AnimatedValues) (animations : List AnimationState) (root_size : Option Fix) (event : StyleChangeEvent)
+    → d ≡ element_declarations w n → old ≡ animated_values_in w w.old entry.effects.animations → new ≡ animated_values_in w w.sheets animations → animations ≡ (paired_at w n entry parent).animations
+    → root_size ≡ w.root_size → event ≡ event_at w n → element_update entry d parent old new animations root_size event ≡ update_at w n entry parent
+unfolding update_at
+update_is w n entry parent d old new animations root_size event declared olds news paired size at =
+    ap (λ v. element_update entry v parent old new animations root_size event) declared
+    ∙ ap (λ v. element_update entry (element_declarations w n) parent v new animations root_size event) olds
+    ∙ ap (λ v. element_update entry (element_declarations w n) parent (animated_values_in w w.old entry.effects.animations) v animations root_size event) news
+    ∙ ap (λ v. element_update entry (element_declarations w n) parent (animated_values_in w w.old entry.effects.animations) (animated_values_in w w.sheets v) v root_size event) paired
+    ∙ ap (λ v. element_update entry (element_declarations w n) parent (animated_values_in w w.old entry.effects.animations) (animated_values_in w w.sheets (paired_at w n entry parent).animations) (paired_at w n entry parent).animations v event) size
+    ∙ ap (λ v. element_update entry (element_declarations w n) parent (animated_values_in w w.old entry.effects.animations) (animated_values_in w w.sheets (paired_at w n entry parent).animations) (paired_at w n entry parent).animations w.root_size v) at
+
+-- the animations of the event at the element, by its parts
+pub pairs_at : (w : DocumentEvent) (n : ℕ) (entry : EntryParts) (parent : Option Down) (event : StyleChangeEvent) (rendered : Bool) (d : Declarations)
+    → event ≡ event_at w n → rendered ≡ is_rendered d parent → d ≡ element_declarations w n → animations_updated w event rendered entry d ≡ paired_at w n entry parent
+pairs_at w n entry parent event rendered d at shown declared =
+    ap (λ v. animations_updated w v rendered entry d) at ∙ ap (λ v. animations_updated w (event_at w n) v entry d) shown
+    ∙ ap (λ v. animations_updated w (event_at w n) (is_rendered v parent) entry v) declared
+
+-- ---- the outcome
+
+pub outside_is : (w : DocumentEvent) (n : ℕ) (entry : EntryParts) (down : Down) → is_in n w.document.elements ≡ false → outcome_in w n entry down ≡ Kept down
+unfolding outcome_in
+outside_is w n entry down is = rw is refl
+
+pub inside_is : (w : DocumentEvent) (n : ℕ) (entry : EntryParts) (down : Down) → is_in n w.document.elements ≡ true
+    → Updated (entry_at w n entry (from_parent w n down)) (handed_by w n entry (from_parent w n down)) ≡ outcome_in w n entry down
+unfolding outcome_in
+inside_is w n entry down is = rw is refl
+
+-- nothing is left of an empty list
+pub empty_of : {X : Type 0} (xs : List X) → (length xs == 0) ≡ true → xs ≡ []
+empty_of [] is = refl
+empty_of (x ∷ xs) is = absurd (omega (arith, eqb-true (length (x ∷ xs)) 0 is))
