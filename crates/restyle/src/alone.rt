@@ -1,0 +1,84 @@
+//! The restyle pass on one thread.
+
+ghost use Rattle.std.specs.Prelude.{◌≡◌, IfOk, IfSome, length, map};
+ghost use Rattle.doc_tree.specs.Element.{numbers_of};
+ghost use Rattle.value_types.specs.Ranges.{IsSize};
+ghost use Rattle.restyle.specs.StyleChanges.{entry_after_event, frame_after, root_size_of};
+
+use crate::frame::{Frame, FrameContent};
+use crate::plan::plan_of;
+use doc_tree::laws;
+use element_step::ElementWork;
+use fix_num::Fix;
+use pass_core::pass_alone;
+use std::alloc::{AllocError, Global};
+use style_data::Entry;
+
+/// A frame after its style change event.
+#[derive(Drop)]
+pub struct Restyled {
+    pub frame: Frame,
+    /// How many elements were updated.
+    pub updated: u32,
+}
+
+/// The style change event of a frame, on this thread: every element is updated, parents before their children (CSS Transitions
+/// 1, section 3). Waits for nobody.
+pub fn restyle_alone(alloc: Global, frame: Frame) -> Result<Restyled, AllocError>
+    ensures frame { IfOk result (λ r. r.frame ≡ frame_after frame) }
+    ensures updated { IfOk result (λ r. r.updated ≡ length frame.document.elements) }
+{
+    let FrameContent {
+        mut tree,
+        old,
+        sheets,
+        entries,
+        time,
+        generation,
+    } = frame.into_content();
+    tree.renumber();
+    let updated = tree.len() as u32;
+    let root_size = root_size_of(entries.as_slice());
+    let work = ElementWork::new(time, generation, tree, old, sheets, root_size);
+    let entries = update_all(alloc, &work, entries)?;
+    let (tree, sheets) = work.into_parts();
+    let old = sheets.copy()?;
+    let frame = Frame::new(FrameContent {
+        tree,
+        old,
+        sheets,
+        entries,
+        time,
+        generation,
+    });
+    Ok(Restyled { frame, updated })
+}
+
+/// The entries after the event, where these are those of the tree's elements in tree order.
+fn update_all(
+    alloc: Global,
+    work: &ElementWork,
+    entries: Vec<(u32, Entry)>,
+) -> Result<Vec<(u32, Entry)>, AllocError>
+    requires { map (λ x. x.0) entries.items ≡ numbers_of work.now.document.elements }
+    ensures value { IfOk result (λ closing. closing.items ≡ map (λ x. (x.0, entry_after_event work.now entries.items x.0)) entries.items) }
+    ensures numbers { IfOk result (λ closing. map (λ x. x.0) closing.items ≡ numbers_of work.now.document.elements) }
+{
+    laws::ancestors_go_by_parents();
+    laws::numbers_differ();
+    laws::parents_stand_before();
+    laws::subtrees_stand_together();
+    let plan = plan_of(alloc, work.tree())?;
+    pass_alone(alloc, work, &plan, entries)
+}
+
+/// The root's font size at the event before; `None` where no frame has styled it.
+fn root_size_of(entries: &[(u32, Entry)]) -> Option<Fix>
+    ensures value { result ≡ root_size_of entries.now }
+    ensures size { IfSome result IsSize }
+{
+    match entries {
+        [root, ..] if root.1.styled() => Some(root.1.now().font_size()),
+        _ => None,
+    }
+}
