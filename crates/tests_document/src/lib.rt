@@ -8,8 +8,8 @@ mod matching;
 #[cfg(test)]
 mod selectors;
 #[cfg(test)]
-mod sheets;
-#[cfg(test)]
 mod tree;
 #[cfg(test)]
 mod tree_limits;
+#[cfg(test)]
+mod winners;

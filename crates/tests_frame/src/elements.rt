@@ -1,5 +1,6 @@
 //! The update of an element.
-use element_step::{Paired, is_rendered, update_entry};
+use animation_names::Paired;
+use element_step::{is_rendered, update_entry};
 use fix_num::{Fix, Micros};
 use std::test::Fail;
 use style_data::{DeclaredSet, Entry, NoSampling};

@@ -3,6 +3,10 @@
 #![tactic(auto)]
 
 #[cfg(test)]
+mod effects;
+#[cfg(test)]
 mod elements;
 #[cfg(test)]
 mod events;
+#[cfg(test)]
+mod ticks;

@@ -19,6 +19,8 @@ mod keyframe_samples;
 #[cfg(test)]
 mod matching;
 #[cfg(test)]
+mod names;
+#[cfg(test)]
 mod starting;
 #[cfg(test)]
 mod styles;

@@ -19,8 +19,6 @@ mod properties;
 #[cfg(test)]
 mod reading;
 #[cfg(test)]
-mod shorthands;
-#[cfg(test)]
 mod steps;
 #[cfg(test)]
 mod values;

@@ -483,7 +483,7 @@ fn each_rule_has_its_frames(rt: HostRuntime) -> Result<(), Fail> {
         assert!(rt; text.len() < 200);
         let sheet = read_sheet(rt.alloc(), text)?;
         assert!(rt; sheet.keyframes().len() == 1);
-        let frames = sheet.keyframes()[0].frames.as_slice();
+        let frames = sheet.keyframes()[0].frames.get().as_slice();
         assert!(rt; frames.len() == wanted.len());
         for (frame, one) in frames.iter().zip(wanted.iter()) {
             assert!(rt; is_frame(frame, one));

@@ -718,71 +718,72 @@ fn initial_lists(rt: HostRuntime) {
     assert!(rt; gives_initial(&rt, KnownName::Animation, "Unset", &NAMES[28..36]));
 }
 
+/// Texts that are no value of `transition`, and why.
+const TRANSITION_FAULTS: [(&str, ValueFault); 26] = [
+    ("", ValueFault::Unsupported),
+    ("1s,", ValueFault::Unsupported),
+    (",", ValueFault::Unsupported),
+    ("1s 2s 3s", ValueFault::Unsupported),
+    ("-1s", ValueFault::Unsupported),
+    ("-1s 2s", ValueFault::Unsupported),
+    ("width height", ValueFault::Unsupported),
+    ("linear ease ease", ValueFault::Unsupported),
+    ("none none", ValueFault::Unsupported),
+    ("none, 1s", ValueFault::Unsupported),
+    ("1s, none", ValueFault::Unsupported),
+    ("inherit", ValueFault::Unsupported),
+    ("1s initial", ValueFault::Unsupported),
+    ("1s, unset", ValueFault::Unsupported),
+    ("steps(2) steps(3)", ValueFault::Unsupported),
+    ("steps(2", ValueFault::Unsupported),
+    ("1s 1", ValueFault::Unsupported),
+    ("1s (", ValueFault::Unsupported),
+    ("1000000001s -1s width 5vh", ValueFault::Unsupported),
+    ("1000000001s", ValueFault::Bound),
+    ("1s -1000000001s", ValueFault::Bound),
+    ("steps(1000001)", ValueFault::Bound),
+    ("cubic-bezier(0, 11, 0, 0)", ValueFault::Bound),
+    (
+        "a,a,a,a,a,a,a,a,a,a,a,a,a,a,a,a,a,a,a,a,a,a,a,a,a,a,a,a,a,a,a,a,a",
+        ValueFault::BoundItems,
+    ),
+    (
+        "a,a,a,a,a,a,a,a,a,a,a,a,a,a,a,a,a,a,a,a,a,a,a,a,a,a,a,a,a,a,a,a,none",
+        ValueFault::Unsupported,
+    ),
+    (
+        "a,a,a,a,a,a,a,a,a,a,a,a,a,a,a,a,a,a,a,a,a,a,a,a,a,a,a,a,a,a,a,a,1000000001s",
+        ValueFault::BoundItems,
+    ),
+];
+
+/// Texts that are no value of `animation`, and why.
+const ANIMATION_FAULTS: [(&str, ValueFault); 14] = [
+    ("", ValueFault::Unsupported),
+    ("a b", ValueFault::Unsupported),
+    ("none none none", ValueFault::Unsupported),
+    ("1 2", ValueFault::Unsupported),
+    ("-1", ValueFault::Unsupported),
+    ("1s 2s 3s", ValueFault::Unsupported),
+    ("-1s", ValueFault::Unsupported),
+    ("inherit", ValueFault::Unsupported),
+    ("a unset", ValueFault::Unsupported),
+    ("'a'", ValueFault::Unsupported),
+    ("1000001", ValueFault::Bound),
+    ("1000000001s", ValueFault::Bound),
+    (
+        "a,a,a,a,a,a,a,a,a,a,a,a,a,a,a,a,a,a,a,a,a,a,a,a,a,a,a,a,a,a,a,a,a",
+        ValueFault::BoundItems,
+    ),
+    ("1 2, 1000001", ValueFault::Unsupported),
+];
+
 #[test]
 fn list_faults(rt: HostRuntime) {
-    let unsupported = ValueFault::Unsupported;
-    let items = ValueFault::BoundItems;
-    let bound = ValueFault::Bound;
-    let transition = KnownName::Transition;
-    let animation = KnownName::Animation;
-    for (name, text, wanted) in [
-        (transition, "", unsupported),
-        (transition, "1s,", unsupported),
-        (transition, ",", unsupported),
-        (transition, "1s 2s 3s", unsupported),
-        (transition, "-1s", unsupported),
-        (transition, "-1s 2s", unsupported),
-        (transition, "width height", unsupported),
-        (transition, "linear ease ease", unsupported),
-        (transition, "none none", unsupported),
-        (transition, "none, 1s", unsupported),
-        (transition, "1s, none", unsupported),
-        (transition, "inherit", unsupported),
-        (transition, "1s initial", unsupported),
-        (transition, "1s, unset", unsupported),
-        (transition, "steps(2) steps(3)", unsupported),
-        (transition, "steps(2", unsupported),
-        (transition, "1s 1", unsupported),
-        (transition, "1s (", unsupported),
-        (transition, "1000000001s -1s width 5vh", unsupported),
-        (transition, "1000000001s", bound),
-        (transition, "1s -1000000001s", bound),
-        (transition, "steps(1000001)", bound),
-        (transition, "cubic-bezier(0, 11, 0, 0)", bound),
-        (
-            transition,
-            "a,a,a,a,a,a,a,a,a,a,a,a,a,a,a,a,a,a,a,a,a,a,a,a,a,a,a,a,a,a,a,a,a",
-            items,
-        ),
-        (
-            transition,
-            "a,a,a,a,a,a,a,a,a,a,a,a,a,a,a,a,a,a,a,a,a,a,a,a,a,a,a,a,a,a,a,a,none",
-            unsupported,
-        ),
-        (
-            transition,
-            "a,a,a,a,a,a,a,a,a,a,a,a,a,a,a,a,a,a,a,a,a,a,a,a,a,a,a,a,a,a,a,a,1000000001s",
-            items,
-        ),
-        (animation, "", unsupported),
-        (animation, "a b", unsupported),
-        (animation, "none none none", unsupported),
-        (animation, "1 2", unsupported),
-        (animation, "-1", unsupported),
-        (animation, "1s 2s 3s", unsupported),
-        (animation, "-1s", unsupported),
-        (animation, "inherit", unsupported),
-        (animation, "a unset", unsupported),
-        (animation, "'a'", unsupported),
-        (animation, "1000001", bound),
-        (animation, "1000000001s", bound),
-        (
-            animation,
-            "a,a,a,a,a,a,a,a,a,a,a,a,a,a,a,a,a,a,a,a,a,a,a,a,a,a,a,a,a,a,a,a,a",
-            items,
-        ),
-        (animation, "1 2, 1000001", unsupported),
-    ] {
-        assert!(rt; fault(&rt, name, text) == Some(wanted));
+    for (text, wanted) in TRANSITION_FAULTS {
+        assert!(rt; fault(&rt, KnownName::Transition, text) == Some(wanted));
+    }
+    for (text, wanted) in ANIMATION_FAULTS {
+        assert!(rt; fault(&rt, KnownName::Animation, text) == Some(wanted));
     }
 }
