@@ -1,5 +1,6 @@
 // The works of `bench_document` in plain Rust, to be timed beside it: elements in a vector by number, children in a vector of each.
 use std::collections::HashMap;
+use std::rc::Rc;
 
 const ELEMENTS: u32 = 65_536;
 
@@ -103,6 +104,54 @@ fn matches(tree: &Tree, n: u32, a: &str, b: &str, c: &str) -> bool {
     false
 }
 
+const RULES: u32 = 4_096;
+
+struct Rule {
+    class: String,
+    specificity: (u32, u32, u32),
+    declarations: Vec<(u8, bool, i32)>,
+}
+
+// By class, the indexes of the rules that name it.
+struct Sheet {
+    rules: Vec<Rule>,
+    by_class: HashMap<String, Vec<usize>>,
+}
+
+fn sheet() -> Sheet {
+    let mut sheet = Sheet { rules: Vec::new(), by_class: HashMap::new() };
+    for n in 0..RULES {
+        let class = format!("c{n}");
+        sheet.by_class.entry(class.clone()).or_default().push(n as usize);
+        sheet.rules.push(Rule { class, specificity: (0, 1, 0), declarations: vec![(0, false, n as i32)] });
+    }
+    sheet
+}
+
+// The winners of an element by property, shared.
+fn winners(sheet: &Sheet, tree: &Tree, n: u32) -> Rc<Vec<(u8, bool, i32)>> {
+    let element = &tree.elements[&n];
+    let mut best: Vec<(u8, bool, (u32, u32, u32), usize, i32)> = Vec::new();
+    for class in &element.classes {
+        for at in sheet.by_class.get(class).map_or(&[][..], Vec::as_slice) {
+            let rule = &sheet.rules[*at];
+            if !has(element, &rule.class) {
+                continue;
+            }
+            for (property, important, value) in &rule.declarations {
+                match best.iter_mut().find(|b| b.0 == *property && b.1 == *important) {
+                    None => best.push((*property, *important, rule.specificity, *at, *value)),
+                    Some(b) if (b.2, b.3) <= (rule.specificity, *at) => {
+                        *b = (*property, *important, rule.specificity, *at, *value)
+                    }
+                    Some(_) => {}
+                }
+            }
+        }
+    }
+    Rc::new(best.iter().map(|b| (b.0, b.1, b.4)).collect())
+}
+
 fn main() {
     let words: Vec<String> = std::env::args().collect();
     let rounds: u64 = words[2].parse().unwrap();
@@ -129,6 +178,21 @@ fn main() {
             let tree = grown(&mut state);
             for _ in 0..rounds {
                 found += tree.sum(1);
+            }
+        }
+        "winners" => {
+            let sheet = sheet();
+            let mut tree = Tree::default();
+            tree.add(1, None, "div");
+            for n in 1..RULES {
+                tree.add(n + 1, Some(1), "p");
+                let classes = vec![format!("c{}", draw(&mut state, RULES)), format!("c{}", draw(&mut state, RULES))];
+                tree.elements.get_mut(&(n + 1)).unwrap().classes = classes;
+            }
+            for _ in 0..rounds {
+                for n in 0..RULES {
+                    found += winners(&sheet, &tree, n + 1).iter().any(|w| w.0 == 0) as u64;
+                }
             }
         }
         _ => {
