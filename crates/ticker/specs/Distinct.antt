@@ -9,6 +9,7 @@ use Rattle.style_data.specs.declared.event.Event.{Event}
 use Rattle.style_data.specs.declared.gone.Gone.{Gone}
 use Rattle.ticker.specs.Events.{cancelled_standing}
 
+-- events that stand at different places
 abbrev pub KeysDiffer : Event → Event → Type 0
 KeysDiffer a b = a.key ≢ b.key
 

@@ -22,6 +22,7 @@ occurrence kind elapsed time = record { kind = kind; elapsed = record { 0 = elap
 
 -- ---- composite order (CSS Transitions Level 2 and CSS Animations Level 2, "Animation composite order")
 
+-- a place in composite order, by its fields
 abbrev pub standing : ℕ → ℕ → ℕ → ℕ → Standing
 standing class first second third = record { class = class; first = first; second = second; third = third }
 

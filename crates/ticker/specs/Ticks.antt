@@ -78,6 +78,7 @@ running_after t ts p = option_and_then (still_running t) (running_of ts p)
 abbrev pub completed_after : ℤ → TransitionSet → PropertyId → Option Completed
 completed_after t ts p = option_or (option_and_then (completed_by t) (running_of ts p)) (completed_of ts p)
 
+-- the transitions that it leaves, property by property
 abbrev pub ticked_transitions : ℤ → TransitionSet → TransitionSet
 ticked_transitions t ts = transition_set (by_property (running_after t ts)) (by_property (completed_after t ts))
 
