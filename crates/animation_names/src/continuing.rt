@@ -69,11 +69,7 @@ pub(crate) fn started_animation(
 
 /// An animation that is cancelled at time `t`, with what its cancel event needs.
 #[tactic(auto, unfolding(crate::specs::Continuing::cancelled_animation))]
-pub(crate) fn cancelled_animation(
-    alloc: Global,
-    a: &Animation,
-    t: Micros,
-) -> Result<Gone, AllocError>
+pub fn cancelled_animation(alloc: Global, a: &Animation, t: Micros) -> Result<Gone, AllocError>
     requires { IsMoment t.0 }
     ensures { IfOk result (λ gone. gone ≡ cancelled_animation t a.now) }
 {

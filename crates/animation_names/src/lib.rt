@@ -13,6 +13,7 @@ mod resolving;
 mod sampling;
 mod updating;
 
+pub use continuing::cancelled_animation;
 pub use paired::Paired;
 pub use resolving::resolve;
 pub use sampling::sampled;
