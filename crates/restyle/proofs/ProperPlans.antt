@@ -1,5 +1,5 @@
 -- The plan of a document is proper.
-use Rattle.std.proofs.Common.{◌≡◌, ◌≢◌, ℕ, zero, suc, ◌+◌, ◌<◌, ◌≤◌, refl, ap, sym, ◌∙◌, subst, inl, inr, arith, eqb, Bool, true, false, not, ◌&&◌, ◌||◌, Option, Some, None, List, [], ◌∷◌, ◌++◌, length, map, filter, append_assoc, length-append}
+use Rattle.std.proofs.Common.{◌≡◌, ℕ, zero, suc, ◌+◌, ◌<◌, ◌≤◌, refl, ap, sym, ◌∙◌, subst, inl, inr, arith, eqb, Bool, true, false, not, ◌&&◌, ◌||◌, Option, Some, None, List, [], ◌∷◌, ◌++◌, length, map, filter, append_assoc, length-append}
 use Rattle.std.specs.Prelude.{if◌then◌else◌, nat_lt, nat_le, slice_get, option_map, unwrap_or, IsTrue}
 use Rattle.std.specs.List.{list_any, position, position_or_len}
 use Rattle.std.specs.Option.{option_and_then, option_map_or}
@@ -8,7 +8,7 @@ use Rattle.std.proofs.lemmas.Bool.Decides.{nat_tests}
 use Rattle.std.proofs.lemmas.List.Elements.{filter-append}
 use Rattle.std.proofs.lemmas.List.Folds.{list_any-append}
 use Rattle.std.proofs.lemmas.Option.{slice_get-map}
-use Rattle.doc_tree.specs.Element.{Document, Element, inclusive_ancestors, is_in, is_inclusive_descendant, position_of, subtree_end_of, subtree_of}
+use Rattle.doc_tree.specs.Element.{Document, Element, inclusive_ancestors, is_in, is_inclusive_descendant, position_of, subtree_of}
 use Rattle.doc_tree.specs.Shape.{IsTree}
 use Rattle.pass_core.specs.Plans.{differ, end_is_right, is_below, is_proper, parent_place, parents_stand_before, subtrees_end}
 use Rattle.pass_core.specs.declared.plan.Place.{Place}
@@ -51,7 +51,7 @@ first_at p (x ∷ front) item back none passes =
     let rest = first_at p front item back parts.1 passes in
     rw parts.0 (omega arith)
 
-position-split : {X : Type 0} (p : X → Bool) (front : List X) (item : X) (back : List X) → list_any p front ≡ false → p item ≡ true → position p (front ++ item ∷ back) ≡ Some (length front)
+pub position-split : {X : Type 0} (p : X → Bool) (front : List X) (item : X) (back : List X) → list_any p front ≡ false → p item ≡ true → position p (front ++ item ∷ back) ≡ Some (length front)
 position-split p front item back none passes =
     rw (first_at p front item back none passes, lt-ltb (length front) (length (front ++ item ∷ back)) (omega (arith, length-append front (item ∷ back)))) refl
 

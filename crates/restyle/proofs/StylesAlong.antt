@@ -1,8 +1,7 @@
 -- What is handed down stands for whole styles.
-use Rattle.std.proofs.Common.{◌≡◌, ℕ, refl, ap, sym, ◌∙◌, Bool, true, false, List, [], ◌∷◌, Option, Some, None}
+use Rattle.std.proofs.Common.{◌≡◌, ℕ, refl, ap, ◌∙◌, Bool, true, false, List, [], ◌∷◌, Option, Some, None}
 use Rattle.std.specs.Prelude.{option_map, if◌then◌else◌}
 use Rattle.change_styles.specs.Inheritance.{Ancestors, handed_down, inherited_from, with_child}
-use Rattle.change_styles.specs.ThreeStyles.{after_change_style, before_change_style, current_style}
 use Rattle.computed_style.specs.Styles.{ComputedStyle}
 use Rattle.computed_style.specs.declared.inherited.Down.{Down}
 use Rattle.computed_style.specs.declared.inherited.InheritedValues.{InheritedValues}

@@ -1,11 +1,11 @@
 -- A walk over the elements of a document that appends something for each.
-use Rattle.std.proofs.Common.{◌≡◌, ◌∙◌, ap, sym, subst, ℕ, ◌+◌, ◌<◌, List, [], ◌∷◌, ◌++◌, Option, None, length, map, take, get_or}
+use Rattle.std.proofs.Common.{◌≡◌, ◌∙◌, ap, sym, subst, ℕ, ◌+◌, ◌<◌, List, [], ◌∷◌, ◌++◌, None, length, map, take, get_or}
 use Rattle.std.specs.Prelude.{IfSome, slice_get}
 use Rattle.std.proofs.lemmas.List.{map-append, take_more}
 use Rattle.std.proofs.lemmas.Option.{slice_get-get_or}
 use Rattle.doc_tree.specs.Element.{Element}
 
-nobody : Element
+pub nobody : Element
 nobody = record { number = 0; parent = None; tag = []; id = None; classes = []; style = [] }
 
 -- one more element

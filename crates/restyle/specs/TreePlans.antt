@@ -1,5 +1,5 @@
 -- The plan of a pass over a whole document.
-use Rattle.std.specs.Prelude.{ℕ, List, map, unwrap_or}
+use Rattle.std.specs.Prelude.{List, map, unwrap_or}
 use Rattle.std.specs.Option.{option_and_then}
 use Rattle.doc_tree.specs.Element.{Document, Element, position_of, subtree_end_of}
 use Rattle.pass_core.specs.declared.plan.Place.{Place}

@@ -1,15 +1,26 @@
-//! Floor: world. Knows the document, its elements' entries and one style change event.
+//! Floor: world. Knows the document, its elements' entries, the edits of a script and the frames.
 //!
 //! `restyle_alone(alloc, frame)?` is the frame after its style change event, on one thread; `plan_of(alloc, &tree)?` is the plan
 //! of a pass over the whole tree.
 #![tactic(auto)]
 
 mod alone;
+mod departed;
+mod edit;
+mod edit_fault;
+mod entries;
 mod frame;
 mod laws;
 mod plan;
+mod state;
+mod world;
+mod world_frame;
+mod world_laws;
 
 pub use alone::{Restyled, restyle_alone};
+pub use edit_fault::EditFault;
 pub use frame::{Frame, FrameContent};
 pub use laws::siblings_never_show;
 pub use plan::plan_of;
+pub use world::{FrameOut, World};
+pub use world_laws::{frames_have_an_order, worlds_stay_distinct};

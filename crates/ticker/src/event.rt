@@ -22,12 +22,12 @@ pub(crate) struct Occurrence {
 
 /// Where the events of a transition or an animation stand in composite order, field by field.
 #[derive(Clone, Copy)]
-pub(crate) struct Standing {
+pub struct Standing {
     /// 0 and 1: transitions with and without an owning element; 2 and 3: animations.
-    pub(crate) class: u32,
-    pub(crate) first: u32,
-    pub(crate) second: u32,
-    pub(crate) third: u32,
+    pub class: u32,
+    pub first: u32,
+    pub second: u32,
+    pub third: u32,
 }
 
 /// What occurs to a subject of an element, as its event.

@@ -14,4 +14,5 @@ mod stays;
 mod ticks;
 mod transition;
 
+pub use event::Standing;
 pub use ticks::tick;

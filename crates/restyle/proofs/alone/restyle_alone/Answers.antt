@@ -1,4 +1,4 @@
-use Rattle.std.proofs.Common.{◌≡◌, ◌∙◌, ap, refl, sym}
+use Rattle.std.proofs.Common.{◌∙◌, ap}
 use Rattle.element_step.specs.Works.{document_event}
 use Rattle.restyle.specs.StyleChanges.{root_size_of}
 use Rattle.restyle.proofs.Frames.{after_is}

@@ -1,4 +1,4 @@
-use Rattle.std.proofs.Common.{◌≡◌, ◌∙◌, ap, sym, subst, ℕ, List, map, true}
+use Rattle.std.proofs.Common.{◌≡◌, ◌∙◌, ap, sym, subst, true}
 use Rattle.std.specs.Prelude.{IfOk, Result, Ok, Err}
 use Rattle.doc_tree.specs.Shape.{IsTree}
 use Rattle.element_step.specs.Works.{element_meaning}

@@ -1,4 +1,4 @@
-use Rattle.std.proofs.Common.{◌≡◌, ◌∙◌, ap, refl, ℕ, arith, List, [], ◌∷◌, map, take}
+use Rattle.std.proofs.Common.{◌≡◌, ◌∙◌, ap, refl, ℕ, arith, List, [], ◌∷◌, map}
 use Rattle.std.proofs.lemmas.List.{take_all}
 use Rattle.doc_tree.specs.Element.{Element, numbers_of}
 use Rattle.style_data.specs.Entries.{EntryParts, fresh_entry}

@@ -1,9 +1,9 @@
-use Rattle.std.proofs.Common.{◌≡◌, ◌∙◌, ap, arith, refl, ℕ, suc, List, [], ◌∷◌, Option, Some, None}
+use Rattle.std.proofs.Common.{◌≡◌, ◌∙◌, ap, arith, refl, ℕ, suc, List, [], ◌∷◌, Some}
 use Rattle.std.specs.Prelude.{All, option_map}
 use Rattle.doc_tree.specs.Element.{Element}
 use Rattle.element_step.specs.Works.{DocumentEvent, entry_at, update_at}
 use Rattle.style_data.specs.Entries.{EntryParts}
-use Rattle.restyle.specs.StyleChanges.{StylesAbove, ancestors_of, entry_after_event, entry_for, inherited_above, styles_along, styles_below}
+use Rattle.restyle.specs.StyleChanges.{ancestors_of, entry_for, inherited_above, styles_along, styles_below}
 use Rattle.restyle.proofs.laws.siblings_never_show.Goals as goal
 
 same_styles : (w : DocumentEvent) (entries others : List (ℕ × EntryParts)) (chain : List Element) → All (λ a. entry_for entries a.number ≡ entry_for others a.number) chain
