@@ -1,14 +1,16 @@
 -- What is read into the buffer, over several reads.
-use Rattle.std.proofs.Common.{◌≡◌, ℕ, ◌+◌, ◌-◌, ◌<◌, ◌≤◌, suc, cond, eqb, ne_eqb, List, [], ◌∷◌, ◌++◌, length, take, drop, Option, None, Some, refl, sym, ap, ◌∙◌, subst, append_assoc, append-nil, length-append, arith}
+use Rattle.std.proofs.Common.{◌≡◌, ℕ, ◌+◌, ◌-◌, ◌<◌, ◌≤◌, suc, cond, eqb, ne_eqb, List, [], ◌∷◌, ◌++◌, length, take, drop, Option, None, Some, inl, inr, IfSome, refl, sym, ap, ◌∙◌, subst, append_assoc, append-nil, length-append, arith}
 use Rattle.std.proofs.KnownBytes.{Consumes-nil, Consumes-trans}
 use Rattle.std.proofs.lemmas.Bool.{cond-false}
 use Rattle.std.proofs.lemmas.List.{take_at, drop_at, length-take, nil_from_length, take-append-drop, drop_more}
 use Rattle.std.proofs.lemmas.List.Elements.{All-same, All-take, All-drop, All-nil, All-append}
 use Rattle.std.specs.Io.BufRead.{strip_last}
+use Rattle.std.specs.Prelude.{IfNone}
 use Rattle.std.specs.Io.KnownBytes.{Consumes, IsAtEnd, prepend_known}
 use Rattle.text_io.specs.Told.{Told}
 use Rattle.text_io.specs.Lines.{lines_of, HasNoFeed, limited_text}
-use Rattle.text_io.specs.Buffer.{IsFirstFeed, SameLines, Fills, GivesCut}
+use Rattle.text_io.specs.Buffer.{IsFirstFeed, SameLines, Fills}
+use Rattle.text_io.specs.Reader.{TakesLine}
 use Rattle.text_io.proofs.LineLemmas.{NotFeed, SameLines-trimmed, lines_of-line, lines_of-last, lines_of-nil, lines_of-none}
 
 -- the bytes were filled in, and those up to the place that was searched have no line feed: neither the kept nor the others
@@ -105,49 +107,68 @@ Filled-limit a b t u x y searched more filled clear full =
     (ap (λ (xs : List ℕ). a ++ xs) (take_at given more (67108864 - t) (omega (arith, filled.fills.count, full))))
     (Filled-clear a b t u x y searched filled clear)
 
--- the lines of all bytes are those of the kept bytes and of what the source has left
-lines_of-filled : (old new : List ℕ) (t u : ℕ) (x y given : List ℕ) → Fills old new t u (Some x) (Some y) given → lines_of (old ++ x) ≡ lines_of (new ++ y)
-lines_of-filled old new t u x y given fills =
-    ap (λ (xs : List ℕ). lines_of (old ++ xs)) fills.gives ∙ ap lines_of (sym (append_assoc old given y)) ∙ fills.same y
-
 split_at_feed : (bytes : List ℕ) (at : ℕ) → IsFirstFeed bytes at → bytes ≡ take at bytes ++ 10 ∷ drop (at + 1) bytes
 split_at_feed bytes at first =
     sym (take-append-drop at bytes)
     ∙ ap (λ (xs : List ℕ). take at bytes ++ xs) (drop_more bytes at 0 first.within ∙ ap (λ (b : ℕ). b ∷ drop (at + 1) bytes) first.here)
 
 -- the line up to the first line feed is cut off
-pub cut_found : (old mid new : List ℕ) (t u : ℕ) (before now : Option (List ℕ)) (given : List ℕ) (at : ℕ) (cut : Option (Option (List ℕ)))
+pub cut_found : (old mid new : List ℕ) (t u v : ℕ) (before now : Option (List ℕ)) (given : List ℕ) (at : ℕ) (cut : Option (Option (List ℕ)))
     → Fills old mid t u before now given → IsFirstFeed mid at → cut ≡ Some (limited_text (take at mid) (strip_last 13 (take at mid)))
-    → new ≡ drop (at + 1) mid → Told (prepend_known old before) (prepend_known new now) (GivesCut cut)
-cut_found old mid new t u None now given at cut fills first cut_is new_is = tt
-cut_found old mid new t u (Some x) None given at cut fills first cut_is new_is = absurd fills.gives
-cut_found old mid new t u (Some x) (Some y) given at cut fills first cut_is new_is =
-    let body = take at mid in
-    let rest = drop (at + 1) mid in
-    let lines : lines_of (old ++ x) ≡ limited_text body (strip_last 13 body) ∷ lines_of (new ++ y) =
-    lines_of-filled old mid t u x y given fills
-    ∙ ap (λ (xs : List ℕ). lines_of (xs ++ y)) (split_at_feed mid at first)
-    ∙ ap lines_of (append_assoc body (10 ∷ rest) y)
-    ∙ lines_of-line body (rest ++ y) first.clear
-    ∙ ap (λ (xs : List ℕ). limited_text body (strip_last 13 body) ∷ lines_of (xs ++ y)) (sym new_is) in
-    subst (λ (c : Option (Option (List ℕ))). GivesCut c (old ++ x) (new ++ y)) (sym cut_is) lines
+    → new ≡ drop (at + 1) mid → v ≡ u → IfSome cut (λ line. Told before now (TakesLine line old new t v))
+cut_found old mid new t u v before now given at cut fills first cut_is new_is same =
+    subst (λ (c : Option (Option (List ℕ))). IfSome c (λ line. Told before now (TakesLine line old new t v))) (sym cut_is) (taken before now fills)
+  where
+    lines : (x y : Option (List ℕ)) (more : List ℕ) → Fills old mid t u x y given
+        → lines_of (old ++ given ++ more) ≡ limited_text (take at mid) (strip_last 13 (take at mid)) ∷ lines_of (new ++ more)
+    lines x y more filled =
+        filled.same more
+        ∙ ap (λ (xs : List ℕ). lines_of (xs ++ more)) (split_at_feed mid at first)
+        ∙ ap lines_of (append_assoc (take at mid) (10 ∷ drop (at + 1) mid) more)
+        ∙ lines_of-line (take at mid) (drop (at + 1) mid ++ more) first.clear
+        ∙ ap (λ (xs : List ℕ). limited_text (take at mid) (strip_last 13 (take at mid)) ∷ lines_of (xs ++ more)) (sym new_is)
 
--- all is cut off at the end
-pub cut_end : (mid old new : List ℕ) (t u : ℕ) (before now : Option (List ℕ)) (given : List ℕ) (cut : Option (Option (List ℕ)))
+    taken : (x y : Option (List ℕ)) → Fills old mid t u x y given → Told x y (TakesLine (limited_text (take at mid) (strip_last 13 (take at mid))) old new t v)
+    taken None y filled = tt
+    taken (Some x) None filled = absurd filled.gives
+    taken (Some x) (Some y) filled = record { given = given; gives = filled.gives; count = same ∙ filled.count; line_is = inl (λ more. lines (Some x) (Some y) more filled) }
+
+-- what is left at the end is the last line, where there is any
+pub cut_last : (mid old new : List ℕ) (t u v : ℕ) (before now : Option (List ℕ)) (given : List ℕ) (cut : Option (Option (List ℕ)))
     → Fills old mid t u before now given → HasNoFeed mid → IsAtEnd now → cut ≡ cond (eqb (length mid) 0) None (Some (limited_text mid mid))
-    → new ≡ [] → Told (prepend_known old before) (prepend_known new now) (GivesCut cut)
-cut_end mid old new t u None now given cut fills clear end cut_is new_is = tt
-cut_end mid old new t u (Some x) None given cut fills clear end cut_is new_is = absurd fills.gives
-cut_end [] old new t u (Some x) (Some y) given cut fills clear end cut_is new_is =
-    let none = lines_of-filled old [] t u x y given fills ∙ ap lines_of end ∙ lines_of-nil in
-    subst (λ (c : Option (Option (List ℕ))). GivesCut c (old ++ x) (new ++ y)) (sym cut_is)
+    → new ≡ [] → v ≡ u → IfSome cut (λ line. Told before now (TakesLine line old new t v))
+cut_last [] old new t u v before now given cut fills clear end cut_is new_is same =
+    subst (λ (c : Option (Option (List ℕ))). IfSome c (λ line. Told before now (TakesLine line old new t v))) (sym cut_is) tt
+cut_last (b ∷ bs) old new t u v before now given cut fills clear end cut_is new_is same =
+    subst (λ (c : Option (Option (List ℕ))). IfSome c (λ line. Told before now (TakesLine line old new t v)))
+    (sym (cut_is ∙ cond-false _ _ _ (ne_eqb (suc (length bs)) 0 (omega arith)))) (taken before now fills end)
+  where
+    lines : (x y : Option (List ℕ)) → Fills old (b ∷ bs) t u x y given → lines_of (old ++ given) ≡ limited_text (b ∷ bs) (b ∷ bs) ∷ lines_of new
+    lines x y filled =
+        ap lines_of (sym (append-nil (old ++ given)))
+        ∙ filled.same []
+        ∙ ap lines_of (append-nil (b ∷ bs))
+        ∙ lines_of-last (b ∷ bs) clear (omega arith)
+        ∙ ap (λ (ls : List (Option (List ℕ))). limited_text (b ∷ bs) (b ∷ bs) ∷ ls) (sym (ap lines_of new_is ∙ lines_of-nil))
+
+    taken : (x y : Option (List ℕ)) → Fills old (b ∷ bs) t u x y given → IsAtEnd y → Told x y (TakesLine (limited_text (b ∷ bs) (b ∷ bs)) old new t v)
+    taken None y filled none = tt
+    taken (Some x) None filled none = absurd filled.gives
+    taken (Some x) (Some y) filled none =
+        record { given = given; gives = filled.gives; count = same ∙ filled.count; line_is = inr (none, lines (Some x) (Some y) filled) }
+
+-- where nothing is left, there was nothing
+pub cut_none : (mid old new : List ℕ) (t u : ℕ) (before now : Option (List ℕ)) (given : List ℕ) (cut : Option (Option (List ℕ)))
+    → Fills old mid t u before now given → IsAtEnd now → cut ≡ cond (eqb (length mid) 0) None (Some (limited_text mid mid))
+    → new ≡ [] → IfNone cut (Told (prepend_known old before) (prepend_known new now) (λ xs ys. (xs ≡ []) × (ys ≡ [])))
+cut_none (b ∷ bs) old new t u before now given cut fills end cut_is new_is =
+    subst (λ (c : Option (Option (List ℕ))). IfNone c (Told (prepend_known old before) (prepend_known new now) (λ xs ys. (xs ≡ []) × (ys ≡ []))))
+    (sym (cut_is ∙ cond-false _ _ _ (ne_eqb (suc (length bs)) 0 (omega arith)))) tt
+cut_none [] old new t u None now given cut fills end cut_is new_is =
+    subst (λ (c : Option (Option (List ℕ))). IfNone c (Unit {0})) (sym cut_is) tt
+cut_none [] old new t u (Some x) None given cut fills end cut_is new_is = absurd fills.gives
+cut_none [] old new t u (Some x) (Some y) given cut fills end cut_is new_is =
+    let none : lines_of (old ++ x) ≡ [] =
+    ap (λ (xs : List ℕ). lines_of (old ++ xs)) fills.gives ∙ ap lines_of (sym (append_assoc old given y)) ∙ fills.same y ∙ ap lines_of end ∙ lines_of-nil in
+    subst (λ (c : Option (Option (List ℕ))). IfNone c ((old ++ x ≡ []) × (new ++ y ≡ []))) (sym cut_is)
     (lines_of-none (old ++ x) none, ap (λ (xs : List ℕ). xs ++ y) new_is ∙ end)
-cut_end (b ∷ bs) old new t u (Some x) (Some y) given cut fills clear end cut_is new_is =
-    let mid = b ∷ bs in
-    let lines : lines_of (old ++ x) ≡ limited_text mid mid ∷ lines_of (new ++ y) =
-    lines_of-filled old mid t u x y given fills
-    ∙ ap (λ (xs : List ℕ). lines_of (mid ++ xs)) end
-    ∙ ap lines_of (append-nil mid)
-    ∙ lines_of-last mid clear (omega arith)
-    ∙ ap (λ (ls : List (Option (List ℕ))). limited_text mid mid ∷ ls) (sym (ap lines_of (ap (λ (xs : List ℕ). xs ++ y) new_is ∙ end) ∙ lines_of-nil)) in
-    subst (λ (c : Option (Option (List ℕ))). GivesCut c (old ++ x) (new ++ y)) (sym (cut_is ∙ cond-false _ _ _ (ne_eqb (suc (length bs)) 0 (omega arith)))) lines

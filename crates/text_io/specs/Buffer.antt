@@ -7,7 +7,6 @@ use Rattle.text_io.specs.declared.cut.Cut.{Cut}
 use Rattle.text_io.specs.declared.cut.Cut.TheVariants.{Text, Long, End}
 use Rattle.text_io.specs.declared.limits.TheConstants.{LINE_FEED, MAX_LINE}
 use Rattle.text_io.specs.Lines.{HasNoFeed, lines_of}
-use Rattle.text_io.specs.Reader.{GivesLine}
 
 -- the bytes that are in no line yet
 abbrev pub pending_of : Buffer → List ℕ
@@ -42,8 +41,3 @@ abbrev pub IsWithin : Cut → Type 0
 IsWithin (Text span) = (span.from ≤ span.to) × (span.to ≤ CAPACITY) × (span.to ≤ span.from + MAX_LINE)
 IsWithin Long = ⊤
 IsWithin End = ⊤
-
--- the lines before are this line and then the lines after; where there is none, there are no bytes
-abbrev pub GivesCut : Option (Option (List ℕ)) → List ℕ → List ℕ → Type 0
-GivesCut None before after = (before ≡ []) × (after ≡ [])
-GivesCut (Some line) before after = GivesLine line before after

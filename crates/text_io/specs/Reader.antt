@@ -1,5 +1,5 @@
 -- What a reader of lines is seen as, and what its calls do.
-use Rattle.std.specs.Prelude.{◌≡◌, ℕ, ◌+◌, ◌-◌, ◌*◌, List, ◌∷◌, ◌++◌, length, Option}
+use Rattle.std.specs.Prelude.{◌≡◌, ◌⊎◌, ℕ, ◌+◌, ◌-◌, ◌*◌, List, [], ◌∷◌, ◌++◌, length, Option}
 use Rattle.std.specs.Io.KnownBytes.{prepend_known}
 use Rattle.text_io.specs.declared.limits.TheConstants.{MAX_INPUT}
 use Rattle.text_io.specs.declared.fault.LineFault.{LineFault}
@@ -20,6 +20,18 @@ stream_of reader left = prepend_known reader.pending left
 -- the lines before are this line and then the lines after
 abbrev pub GivesLine : Option (List ℕ) → List ℕ → List ℕ → Type 0
 GivesLine line before after = lines_of before ≡ line ∷ lines_of after
+
+-- the lines of these bytes are this line and then those of the rest, whatever follows both
+abbrev pub BeginsWithLine : List ℕ → Option (List ℕ) → List ℕ → Type 0
+BeginsWithLine bytes line rest = (more : List ℕ) → GivesLine line (bytes ++ more) (rest ++ more)
+
+-- the source gave some bytes, which are counted; the lines of the reader's bytes and these are this line and then those of the reader's bytes now:
+-- whatever follows, or where nothing is left
+pub record TakesLine (line : Option (List ℕ)) (old new : List ℕ) (taken taken' : ℕ) (before after : List ℕ) : Type 0 where
+  pub given : List ℕ
+  pub gives : before ≡ given ++ after
+  pub count : taken' ≡ taken + length given
+  pub line_is : BeginsWithLine (old ++ given) line new ⊎ ((after ≡ []) × GivesLine line (old ++ given) new)
 
 -- the source gave as many bytes as the count of taken bytes rose by
 abbrev pub IsTaken : ℕ → ℕ → List ℕ → List ℕ → Type 0

@@ -1,12 +1,12 @@
 //! The next line at the front of a buffer, read from a source.
-ghost use Rattle.std.specs.Prelude.{◌≡◌, ◌↔◌, ℕ, ◌+◌, ◌-◌, ◌≤◌, ◌<◌, ◌++◌, [], List, take, drop, length, slice_range, slice_index, Some, None, Err, IfOk, OnOk, OnErr, MatchOption, if◌then◌else◌, ◌==◌, IsSome, IfSome};
+ghost use Rattle.std.specs.Prelude.{◌≡◌, ◌↔◌, ℕ, ◌+◌, ◌-◌, ◌≤◌, ◌<◌, ◌++◌, [], List, take, drop, length, slice_range, slice_index, Some, None, Err, IfNone, IfOk, OnOk, OnErr, MatchOption, if◌then◌else◌, ◌==◌, IsSome, IfSome};
 ghost use Rattle.std.specs.Io.BufRead.{strip_last};
 ghost use Rattle.std.specs.Io.KnownBytes.{IsAtEnd, prepend_known};
 ghost use Rattle.text_io.specs.Causes.{Rose, HasCause};
 ghost use Rattle.text_io.specs.Lines.{HasNoFeed, limited_text};
-ghost use Rattle.text_io.specs.Reader.{IsTaken};
+ghost use Rattle.text_io.specs.Reader.{IsTaken, TakesLine};
 ghost use Rattle.text_io.specs.Told.{Told};
-ghost use Rattle.text_io.specs.Buffer.{pending_of, IsFirstFeed, Fills, line_of_cut, IsWithin, GivesCut};
+ghost use Rattle.text_io.specs.Buffer.{pending_of, IsFirstFeed, Fills, line_of_cut, IsWithin};
 
 use crate::buffer::{Buffer, CAPACITY};
 use crate::cut::{Cut, Span};
@@ -130,9 +130,11 @@ fn fill_line<S: Source>(buffer: &mut Buffer, source: &mut S) -> Result<Option<us
 /// Cuts the next line off, and reads as far as that takes.
 pub(crate) fn next_cut<S: Source>(buffer: &mut Buffer, source: &mut S) -> Result<Cut, LineFault>
     requires { buffer.old.taken ≤ MAX_INPUT }
-    ensures line { IfOk result (λ cut. Told (prepend_known (pending_of buffer.old) (S.left source.old))
-        (prepend_known (pending_of buffer.new) (S.left source.new))
-        (GivesCut (line_of_cut buffer.new.bytes.items cut))) }
+    ensures line { IfOk result (λ cut. IfSome (line_of_cut buffer.new.bytes.items cut) (λ line. Told (S.left source.old) (S.left source.new)
+        (TakesLine line (pending_of buffer.old) (pending_of buffer.new) buffer.old.taken buffer.new.taken))) }
+    ensures end { IfOk result (λ cut. IfNone (line_of_cut buffer.new.bytes.items cut)
+        (Told (prepend_known (pending_of buffer.old) (S.left source.old)) (prepend_known (pending_of buffer.new) (S.left source.new))
+        (λ before after. (before ≡ []) × (after ≡ [])))) }
     ensures within { IfOk result IsWithin }
     ensures shrinks { IfOk result (λ cut. IsSome (line_of_cut buffer.new.bytes.items cut)
         → length (pending_of buffer.new) + buffer.old.taken < length (pending_of buffer.old) + buffer.new.taken) }

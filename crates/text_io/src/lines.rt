@@ -4,7 +4,7 @@ ghost use Rattle.std.specs.Result.{result_err};
 ghost use Rattle.text_io.specs.Causes.{Rose};
 ghost use Rattle.text_io.specs.Told.{Told};
 ghost use Rattle.text_io.specs.Lines.{HasNoFeed};
-ghost use Rattle.text_io.specs.Reader.{stream_of, GivesLine, IsTaken, steps_left};
+ghost use Rattle.text_io.specs.Reader.{stream_of, IsTaken, TakesLine, steps_left};
 
 use crate::buffer::Buffer;
 use crate::cut::{Cut, Span};
@@ -74,9 +74,10 @@ impl Lines {
     pub fn next_line<S: Source>(&mut self, source: &mut S) -> Result<Line, LineFault>
         // The lines of the bytes before are the line that was found, and then the lines of the bytes now.
         ensures text { result ≡ Ok Line.Text → IsSomeAnd self.new.text (λ text.
-            Told (stream_of self.old (S.left source.old)) (stream_of self.new (S.left source.new)) (GivesLine (Some text))) }
-        ensures long { result ≡ Ok Line.Long →
-            Told (stream_of self.old (S.left source.old)) (stream_of self.new (S.left source.new)) (GivesLine None) }
+            Told (S.left source.old) (S.left source.new)
+            (TakesLine (Some text) self.old.pending self.new.pending self.old.taken self.new.taken)) }
+        ensures long { result ≡ Ok Line.Long → Told (S.left source.old) (S.left source.new)
+            (TakesLine None self.old.pending self.new.pending self.old.taken self.new.taken) }
         ensures end { result ≡ Ok Line.End →
             Told (stream_of self.old (S.left source.old)) (stream_of self.new (S.left source.new))
             (λ before after. (before ≡ []) × (after ≡ [])) }
