@@ -1,180 +1,115 @@
--- How a run goes on by one line, and how it ends.
-use Rattle.std.proofs.Common.{◌≡◌, ℕ, ◌+◌, ◌-◌, ◌^◌, ◌<◌, ◌≤◌, min, ◌∷◌, length-append, refl, ap, ◌∙◌, subst, arith, List, [], ◌++◌, length, Bool, true, false, inl, inr}
-use Rattle.std.specs.Prelude.{◌||◌, ◌⊎◌, Option, None, Some, IfSome}
-use Rattle.std.specs.Io.KnownBytes.{Appends, Consumes}
-use Rattle.text_io.specs.Causes.{Rose, RoseOrFull}
-use Rattle.text_io.specs.Told.{Told}
-use Rattle.text_io.specs.Reader.{Reader, GivesLine, IsTaken, stream_of, steps_left}
-use Rattle.text_io.specs.declared.limits.TheConstants.{MAX_INPUT}
-use Rattle.text_io.proofs.ToldLemmas.{told_then}
-use Rattle.transcript_cli.specs.declared.status.Status.{Status}
-use Rattle.transcript_cli.specs.declared.status.Status.TheVariants.{Done, Refused, TooMuch, ReadFault, WriteFault}
-use Rattle.transcript_cli.specs.declared.world.World.{World}
-use Rattle.transcript_cli.specs.Play.{AnswersLine, Continues, Gave, HasEnd, IsPlaying}
-use Rattle.transcript_cli.specs.Replay.{Ends, IsFinished, IsReplay}
-use Rattle.transcript_cli.specs.Sound.{IsSound}
-use Rattle.transcript_cli.specs.Transcript.{transcript_of, has_refusal}
-use Rattle.transcript_cli.proofs.Transcripts.{goes_on, ends, gave_more}
+-- How a run goes on by one line.
+use Rattle.std.proofs.Common.{◌≡◌, ℕ, ◌+◌, refl, ap, sym, ◌∙◌, subst, arith, List, [], ◌∷◌, ◌++◌, append_assoc, append-nil, length, length-append, Bool, false, inl, inr, ◌⊎◌}
+use Rattle.std.specs.Prelude.{◌||◌, Option, None, Some}
+use Rattle.std.specs.Io.KnownBytes.{Appends}
+use Rattle.std.proofs.KnownBytes.{Appends-nil, Appends-trans}
+use Rattle.restyle.specs.Worlds.{WorldParts, new_world}
+use Rattle.text_io.specs.Lines.{lines_of}
+use Rattle.text_io.specs.Reader.{BeginsWithLine, GivesLine, Reader, TakesLine}
+use Rattle.transcript_cli.specs.Play.{AreAnswered, BeginsWithLines, HasRead, IsAnswered}
+use Rattle.transcript_cli.specs.Transcript.{Answer, answer_of, refuses_from, transcript_from, world_from}
+use Rattle.transcript_cli.proofs.ByParts.{left_more, refused_more, refuses_ends, transcript_ends, world_ends, written_more}
 
--- one line more
-pub next : (script left left' : Option (List ℕ)) (reader reader' : Reader) (w w' : World) (number : ℕ) (refused is_refused : Bool) (piece : List ℕ) (s s' s'' : ℕ) (before now now' : Ends)
-    → IsPlaying script left reader w number refused s s' before now
-    → AnswersLine w (number + 1) (stream_of reader left) (stream_of reader' left') is_refused piece w'
-    → IsSound w' → w'.frames ≤ w.frames + 1 → steps_left reader' < steps_left reader → reader'.fault ≡ None
-    → Told left left' (IsTaken reader.taken reader'.taken) → s' ≤ s''
-    → Appends now.bytes now'.bytes piece → now.faults ≤ now'.faults → now.empty_writes ≤ now'.empty_writes
-    → IsPlaying script left' reader' w' (number + 1) (refused || is_refused) s s'' before now'
-next script left left' reader reader' w w' number refused is_refused piece s s' s'' before now now' playing (line, gives, answered) sound few shorter fault taken later appends faults empties =
+-- ---- what was answered
+
+pub none_answered : (held : Option (List ℕ)) → AreAnswered [] held held new_world 0 false
+none_answered held = record {
+  written = subst (λ (text : List ℕ). Appends held held text) (sym (transcript_ends new_world 1)) (Appends-nil held);
+  world_is = sym (world_ends new_world 1);
+  number_is = refl;
+  refused_is = sym (refuses_ends new_world 1);
+}
+
+-- the answer to the next line is the one after these
+next_answer : (lines : List (Option (List ℕ))) (line : Option (List ℕ)) (w : WorldParts) (number : ℕ) → w ≡ world_from new_world 1 lines → number ≡ length lines
+    → answer_of w (number + 1) line ≡ answer_of (world_from new_world 1 lines) (1 + length lines) line
+next_answer lines line w number world_is number_is =
+    let after : number + 1 ≡ 1 + length lines = omega arith in
+    ap (λ (x : WorldParts). answer_of x (number + 1) line) world_is ∙ ap (λ (k : ℕ). answer_of (world_from new_world 1 lines) k line) after
+
+-- and what it writes follows what they write
+pub piece_added : (lines : List (Option (List ℕ))) (line : Option (List ℕ)) (w : WorldParts) (number : ℕ) (piece : List ℕ) → w ≡ world_from new_world 1 lines → number ≡ length lines
+    → piece ≡ (answer_of w (number + 1) line).piece → transcript_from new_world 1 (lines ++ line ∷ []) ≡ transcript_from new_world 1 lines ++ piece
+piece_added lines line w number piece world_is number_is piece_is =
+    written_more new_world 1 lines line
+    ∙ ap (λ (bytes : List ℕ). transcript_from new_world 1 lines ++ bytes) (sym (piece_is ∙ ap (λ (a : Answer). a.piece) (next_answer lines line w number world_is number_is)))
+
+pub one_more_answered : (lines : List (Option (List ℕ))) (line : Option (List ℕ)) (start held held' : Option (List ℕ)) (w w' : WorldParts) (number : ℕ) (refused is_refused : Bool) (piece : List ℕ)
+    → AreAnswered lines start held w number refused → IsAnswered (answer_of w (number + 1) line) is_refused [] piece w' → Appends held held' piece
+    → AreAnswered (lines ++ line ∷ []) start held' w' (number + 1) (refused || is_refused)
+one_more_answered lines line start held held' w w' number refused is_refused piece so_far answer appends =
+    let same = next_answer lines line w number so_far.world_is so_far.number_is in
     record {
-      sound = sound;
-      frames = let k = playing.frames in omega (arith, few);
-      count = let k = playing.count in omega (arith, shorter);
-      no_fault = fault;
-      progress = told_then script (stream_of reader left) (stream_of reader' left') (Continues before.bytes now.bytes w number refused) (GivesLine line) (Continues before.bytes now'.bytes w' (number + 1) (refused || is_refused))
-          (λ x y z so_far step. goes_on before.bytes now.bytes now'.bytes w number refused is_refused piece line w' x y z so_far step answered.piece_is answered.refused_is answered.world_is appends)
-          playing.progress gives;
-      taken = told_then script left left' (Gave reader.taken) (IsTaken reader.taken reader'.taken) (Gave reader'.taken) (λ x y z so_far step. gave_more reader.taken reader'.taken x y z so_far step) playing.taken taken;
-      source_later = let k = playing.source_later in omega (arith, later);
-      faults_later = let k = playing.faults_later in omega (arith, faults);
-      empty_writes_later = let k = playing.empty_writes_later in omega (arith, empties);
+      written = subst (λ (bytes : List ℕ). Appends start held' bytes) (sym (piece_added lines line w number piece so_far.world_is so_far.number_is answer.piece_is))
+          (Appends-trans start held held' (transcript_from new_world 1 lines) piece so_far.written appends);
+      world_is = answer.world_is ∙ ap (λ (a : Answer). a.world) same ∙ sym (left_more new_world 1 lines line);
+      number_is = let count = so_far.number_is in omega (arith, length-append lines (line ∷ []));
+      refused_is =
+          ap (λ (b : Bool). b || is_refused) so_far.refused_is
+          ∙ ap (λ (b : Bool). refuses_from new_world 1 lines || b) (answer.refused_is ∙ ap (λ (a : Answer). a.refused) same)
+          ∙ sym (refused_more new_world 1 lines line);
     }
 
--- the whole script is answered, and nothing of the stream is left
-record Whole (before now : Ends) (refused : Bool) (script rest : List ℕ) : Type 0 where
-  appends : Appends before.bytes now.bytes (transcript_of script)
-  refusals : has_refusal script ≡ refused
-  none : rest ≡ []
+-- ---- what was read
 
-not_too_much : (status : Status) → IsFinished status → status ≡ TooMuch → ⊥
-not_too_much status (inl d) e = cc
-not_too_much status (inr r) e = cc
+pub none_read : (script : List ℕ) (reader : Reader) → reader.pending ≡ [] → reader.taken ≡ 0 → HasRead [] reader script script
+none_read script reader pending taken = record {
+  given = [];
+  gives = refl;
+  count = taken;
+  lines_are = inl (λ more. ap (λ (bytes : List ℕ). lines_of (bytes ++ more)) (sym pending));
+}
 
-not_read_fault : (status : Status) → IsFinished status → status ≡ ReadFault → ⊥
-not_read_fault status (inl d) e = cc
-not_read_fault status (inr r) e = cc
+-- the first line of what there is
+first_line : (line : Option (List ℕ)) (bytes rest after : List ℕ) → BeginsWithLine bytes line rest ⊎ ((after ≡ []) × GivesLine line bytes rest) → GivesLine line bytes rest
+first_line line bytes rest after (inl every) =
+    ap lines_of (sym (append-nil bytes)) ∙ every [] ∙ ap (λ (xs : List ℕ). line ∷ lines_of xs) (append-nil rest)
+first_line line bytes rest after (inr last) = last.1
 
-not_write_fault : (status : Status) → IsFinished status → status ≡ WriteFault → ⊥
-not_write_fault status (inl d) e = cc
-not_write_fault status (inr r) e = cc
+pub none_behind : (xs ys : List ℕ) → xs ++ ys ≡ [] → ys ≡ []
+none_behind [] ys e = e
+none_behind (x ∷ xs) ys e = cc
 
-no_fault_finishes : (status : Status) → IsFinished status → (status ≡ ReadFault) ⊎ (status ≡ WriteFault) → ⊥
-no_fault_finishes status finished (inl e) = not_read_fault status finished e
-no_fault_finishes status finished (inr e) = not_write_fault status finished e
+pub none_before : (xs ys : List ℕ) → xs ++ ys ≡ [] → xs ≡ []
+none_before [] ys e = refl
+none_before (x ∷ xs) ys e = cc
 
-not_finished : (status : Status) (taken s s' : ℕ) → HasEnd status taken s s' → IsFinished status → ⊥
-not_finished status taken s s' ended (inl d) = subst (λ (t : Status). HasEnd t taken s s') d ended
-not_finished status taken s s' ended (inr r) = subst (λ (t : Status). HasEnd t taken s s') r ended
+-- where nothing was left, nothing more is given
+ended_more : (lines : List (Option (List ℕ))) (line : Option (List ℕ)) (given pending pending' more left' : List ℕ) → more ++ left' ≡ []
+    → lines_of given ≡ lines ++ lines_of pending → GivesLine line (pending ++ more) pending'
+    → (left' ≡ []) × (lines_of (given ++ more) ≡ (lines ++ line ∷ []) ++ lines_of pending')
+ended_more lines line given pending pending' more left' none so_far first =
+    let nothing : more ≡ [] = none_before more left' none in (
+      none_behind more left' none,
+      ap (λ (bytes : List ℕ). lines_of (given ++ bytes)) nothing
+          ∙ ap lines_of (append-nil given)
+          ∙ so_far
+          ∙ ap (λ (bytes : List ℕ). lines ++ lines_of bytes) (sym (ap (λ (bytes : List ℕ). pending ++ bytes) nothing ∙ append-nil pending))
+          ∙ ap (λ (ls : List (Option (List ℕ))). lines ++ ls) first
+          ∙ sym (append_assoc lines (line ∷ []) (lines_of pending')),
+    )
 
-not_by_writing : (status : Status) (taken s s' : ℕ) → HasEnd status taken s s' → status ≡ WriteFault → ⊥
-not_by_writing status taken s s' ended e = subst (λ (t : Status). HasEnd t taken s s') e ended
+lines_more : (lines : List (Option (List ℕ))) (line : Option (List ℕ)) (given pending pending' more left left' : List ℕ) → left ≡ more ++ left'
+    → BeginsWithLines given lines pending ⊎ ((left ≡ []) × (lines_of given ≡ lines ++ lines_of pending))
+    → BeginsWithLine (pending ++ more) line pending' ⊎ ((left' ≡ []) × GivesLine line (pending ++ more) pending')
+    → BeginsWithLines (given ++ more) (lines ++ line ∷ []) pending' ⊎ ((left' ≡ []) × (lines_of (given ++ more) ≡ (lines ++ line ∷ []) ++ lines_of pending'))
+lines_more lines line given pending pending' more left left' gives (inl all) (inl every) = inl (λ rest.
+    ap lines_of (append_assoc given more rest)
+    ∙ all (more ++ rest)
+    ∙ ap (λ (ls : List (Option (List ℕ))). lines ++ ls) (ap lines_of (sym (append_assoc pending more rest)) ∙ every rest)
+    ∙ sym (append_assoc lines (line ∷ []) (lines_of (pending' ++ rest))))
+lines_more lines line given pending pending' more left left' gives (inl all) (inr last) = inr (
+  last.0,
+  all more ∙ ap (λ (ls : List (Option (List ℕ))). lines ++ ls) last.1 ∙ sym (append_assoc lines (line ∷ []) (lines_of pending')),
+)
+lines_more lines line given pending pending' more left left' gives (inr ended) now =
+    inr (ended_more lines line given pending pending' more left' (sym gives ∙ ended.0) ended.1 (first_line line (pending ++ more) pending' left' now))
 
-few_at_a_fault : (status : Status) (taken s s' : ℕ) → HasEnd status taken s s' → (status ≡ ReadFault) ⊎ (status ≡ WriteFault) → taken ≤ MAX_INPUT
-few_at_a_fault status taken s s' ended (inl e) = (subst (λ (t : Status). HasEnd t taken s s') e ended).0
-few_at_a_fault status taken s s' ended (inr e) = absurd (not_by_writing status taken s s' ended e)
-
-no_end : (status : Status) → IsFinished WriteFault → ⊥
-no_end status (inl d) = cc
-no_end status (inr r) = cc
-
-causes_earlier : (before now now' : Ends) → before.faults ≤ now.faults → before.empty_writes ≤ now.empty_writes
-    → Rose now.faults now'.faults ⊎ RoseOrFull now.empty_writes now'.empty_writes → Rose before.faults now'.faults ⊎ RoseOrFull before.empty_writes now'.empty_writes
-causes_earlier before now now' p q (inl rose) = let r : before.faults < now'.faults = omega (arith, p, rose) in inl r
-causes_earlier before now now' p q (inr full) = let r : min (before.empty_writes + 1) (2 ^ 64 - 1) ≤ now'.empty_writes = omega (arith, q, full) in inr r
-
-nothing_behind : (xs ys : List ℕ) → xs ++ ys ≡ [] → ys ≡ []
-nothing_behind [] ys e = e
-nothing_behind (x ∷ xs) ys e = cc
-
-all_read : (script left : Option (List ℕ)) (reader : Reader) (before now : Ends) (refused : Bool) → reader.taken ≤ MAX_INPUT
-    → Told script (stream_of reader left) (Whole before now refused) → Told script left (Gave reader.taken)
-    → IfSome script (λ bytes. (left ≡ Some []) × (length bytes ≤ MAX_INPUT))
-all_read None left reader before now refused within whole gave = tt
-all_read (Some script) None reader before now refused within whole gave = absurd gave
-all_read (Some script) (Some left) reader before now refused within whole (given, is, count) =
-    let none : left ≡ [] = nothing_behind reader.pending left whole.none in
-    (ap Some none, omega (arith, count, ap length is, ap length none, length-append given left))
-
-gave_too_much : (script left : Option (List ℕ)) (taken : ℕ) → MAX_INPUT < taken → Told script left (Gave taken)
-    → IfSome script (λ bytes. (given : List ℕ) × Consumes script left given × (MAX_INPUT < length given))
-gave_too_much None left taken more gave = tt
-gave_too_much (Some script) None taken more gave = absurd gave
-gave_too_much (Some script) (Some left) taken more (given, is, count) = (given, is, omega (arith, more, count))
-
-gave_in_time : (script left : Option (List ℕ)) (taken : ℕ) → taken ≤ MAX_INPUT → Told script left (Gave taken)
-    → IfSome script (λ bytes. (given : List ℕ) × Consumes script left given × (length given ≤ MAX_INPUT))
-gave_in_time None left taken few gave = tt
-gave_in_time (Some script) None taken few gave = absurd gave
-gave_in_time (Some script) (Some left) taken few (given, is, count) = (given, is, omega (arith, few, count))
-
--- what was told, where the start is known
-told_known : (script now : Option (List ℕ)) (P : List ℕ → List ℕ → Type 0) (Q : List ℕ → Type 0) → ((x y : List ℕ) → now ≡ Some y → P x y → Q x) → Told script now P → IfSome script Q
-told_known None now P Q step told = tt
-told_known (Some x) None P Q step told = absurd told
-told_known (Some x) (Some y) P Q step told = step x y refl told
-
--- no line is left
-pub finishes : (status : Status) (script left left' : Option (List ℕ)) (reader reader' : Reader) (w : World) (number : ℕ) (refused : Bool) (s s' s'' : ℕ) (before now : Ends)
-    → IsPlaying script left reader w number refused s s' before now
-    → Told (stream_of reader left) (stream_of reader' left') (λ x y. (x ≡ []) × (y ≡ []))
-    → Told left left' (IsTaken reader.taken reader'.taken) → reader'.taken ≤ MAX_INPUT → s' ≤ s''
-    → (status ≡ Refused → refused ≡ true) → (status ≡ Done → refused ≡ false) → IsFinished status
-    → IsReplay status script left' s s'' before now
-finishes status script left left' reader reader' w number refused s s' s'' before now playing end taken within later is_refused is_done finished =
-    let all = told_then script (stream_of reader left) (stream_of reader' left') (Continues before.bytes now.bytes w number refused) (λ x y. (x ≡ []) × (y ≡ [])) (Whole before now refused)
-    (λ x y z so_far none. let end = ends before.bytes now.bytes w number refused x y so_far none.0 in record { appends = end.0; refusals = end.1; none = none.1 }) playing.progress end in
-    let given = told_then script left left' (Gave reader.taken) (IsTaken reader.taken reader'.taken) (Gave reader'.taken) (λ x y z so_far step. gave_more reader.taken reader'.taken x y z so_far step) playing.taken taken in
-    record {
-      transcript = λ _. told_known script (stream_of reader' left') (Whole before now refused) _ (λ x y is whole. whole.appends) all;
-      done = λ e. told_known script (stream_of reader' left') (Whole before now refused) _ (λ x y is whole. whole.refusals ∙ is_done e) all;
-      refused = λ e. told_known script (stream_of reader' left') (Whole before now refused) _ (λ x y is whole. whole.refusals ∙ is_refused e) all;
-      read = λ _. all_read script left' reader' before now refused within all given;
-      too_much = λ e. absurd (not_too_much status finished e);
-      read_fault = λ e. absurd (not_read_fault status finished e);
-      write_fault = λ e. absurd (not_write_fault status finished e);
-      in_time = λ e. absurd (no_fault_finishes status finished e);
-      source_later = let k = playing.source_later in omega (arith, later);
-      faults_later = playing.faults_later;
-      empty_writes_later = playing.empty_writes_later;
-    }
-
--- reading and answering a line ended the run
-pub stops : (status : Status) (script left left' : Option (List ℕ)) (reader reader' : Reader) (w : World) (number : ℕ) (refused : Bool) (s s' s'' : ℕ) (before now : Ends)
-    → IsPlaying script left reader w number refused s s' before now
-    → Told left left' (IsTaken reader.taken reader'.taken) → s' ≤ s'' → HasEnd status reader'.taken s' s''
-    → IsReplay status script left' s s'' before now
-stops status script left left' reader reader' w number refused s s' s'' before now playing taken later ended =
-    let given = told_then script left left' (Gave reader.taken) (IsTaken reader.taken reader'.taken) (Gave reader'.taken) (λ x y z so_far step. gave_more reader.taken reader'.taken x y z so_far step) playing.taken taken in
-    record {
-      transcript = λ finished. absurd (not_finished status reader'.taken s' s'' ended finished);
-      done = λ e. absurd (not_finished status reader'.taken s' s'' ended (inl e));
-      refused = λ e. absurd (not_finished status reader'.taken s' s'' ended (inr e));
-      read = λ finished. absurd (not_finished status reader'.taken s' s'' ended finished);
-      too_much = λ e. gave_too_much script left' reader'.taken (subst (λ (t : Status). HasEnd t reader'.taken s' s'') e ended) given;
-      read_fault = λ e. let k = playing.source_later in let rose : s' < s'' = (subst (λ (t : Status). HasEnd t reader'.taken s' s'') e ended).1 in omega (arith, rose);
-      write_fault = λ e. absurd (not_by_writing status reader'.taken s' s'' ended e);
-      in_time = λ e. gave_in_time script left' reader'.taken (few_at_a_fault status reader'.taken s' s'' ended e) given;
-      source_later = let k = playing.source_later in omega (arith, later);
-      faults_later = playing.faults_later;
-      empty_writes_later = playing.empty_writes_later;
-    }
-
--- a piece could not be written
-pub breaks : (script left left' : Option (List ℕ)) (reader reader' : Reader) (w : World) (number : ℕ) (refused : Bool) (s s' s'' : ℕ) (before now now' : Ends)
-    → IsPlaying script left reader w number refused s s' before now
-    → Told left left' (IsTaken reader.taken reader'.taken) → reader'.taken ≤ MAX_INPUT
-    → s' ≤ s'' → now.faults ≤ now'.faults → now.empty_writes ≤ now'.empty_writes
-    → Rose now.faults now'.faults ⊎ RoseOrFull now.empty_writes now'.empty_writes
-    → IsReplay WriteFault script left' s s'' before now'
-breaks script left left' reader reader' w number refused s s' s'' before now now' playing taken few later faults empties cause = record {
-  transcript = λ finished. absurd (no_end WriteFault finished);
-  done = λ e. cc;
-  refused = λ e. cc;
-  read = λ finished. absurd (no_end WriteFault finished);
-  too_much = λ e. cc;
-  read_fault = λ e. cc;
-  write_fault = λ _. causes_earlier before now now' playing.faults_later playing.empty_writes_later cause;
-  in_time = λ _. gave_in_time script left' reader'.taken few (told_then script left left' (Gave reader.taken) (IsTaken reader.taken reader'.taken) (Gave reader'.taken) (λ x y z so_far step. gave_more reader.taken reader'.taken x y z so_far step) playing.taken taken);
-  source_later = let k = playing.source_later in omega (arith, later);
-  faults_later = let k = playing.faults_later in omega (arith, faults);
-  empty_writes_later = let k = playing.empty_writes_later in omega (arith, empties);
+pub one_more_read : (lines : List (Option (List ℕ))) (line : Option (List ℕ)) (reader reader' : Reader) (script left left' : List ℕ) → HasRead lines reader script left
+    → TakesLine line reader.pending reader'.pending reader.taken reader'.taken left left' → HasRead (lines ++ line ∷ []) reader' script left'
+one_more_read lines line reader reader' script left left' so_far took = record {
+  given = so_far.given ++ took.given;
+  gives = so_far.gives ∙ ap (λ (bytes : List ℕ). so_far.given ++ bytes) took.gives ∙ sym (append_assoc so_far.given took.given left');
+  count = let before = so_far.count in let now = took.count in omega (arith, length-append so_far.given took.given);
+  lines_are = lines_more lines line so_far.given reader.pending reader'.pending took.given left left' took.gives so_far.lines_are took.line_is;
 }

@@ -5,23 +5,13 @@
 
 mod answer;
 mod arguments;
-mod command;
-mod declared;
-mod edit;
-mod event;
-mod frame;
 mod gate;
 mod laws;
-mod lines;
-mod number;
-mod refusal;
+mod listing;
 mod replay;
 mod status;
-mod style;
 #[cfg(test)]
 mod tests;
-mod words;
-mod world;
 
 use crate::arguments::words;
 use crate::gate::IdleGate;
