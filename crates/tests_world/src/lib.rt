@@ -6,5 +6,3 @@
 mod lines;
 #[cfg(test)]
 mod restyling;
-#[cfg(test)]
-mod worlds;
