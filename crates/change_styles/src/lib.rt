@@ -12,4 +12,4 @@ pub use laws::{
     five_values_stand_for_styles, nothing_changes, transitions_lie_on_top,
     without_running_transitions,
 };
-pub use styles::{after_style, before_style, handed_down, now_style};
+pub use styles::{after_style, before_style, handed_down, keep_font_size, now_style, with_running};

@@ -1,7 +1,9 @@
 //! The three styles of an element.
 
-ghost use Rattle.std.specs.Prelude.{◌≡◌, IfOk, option_copied};
-ghost use Rattle.computed_style.specs.Styles.{AreGiven};
+ghost use Rattle.std.specs.Prelude.{◌≡◌, IfOk, None, option_copied};
+ghost use Rattle.std.specs.Bool.{OnTrue};
+ghost use Rattle.computed_style.specs.ByProperty.{kept_for};
+ghost use Rattle.computed_style.specs.Styles.{AreGiven, style_with};
 ghost use Rattle.style_data.specs.Kept.{IsKeptFor};
 ghost use Rattle.transition_start.specs.Sampling.{sample_of};
 ghost use Rattle.value_types.specs.Validity.{IsValid};
@@ -69,6 +71,47 @@ pub fn now_style<A: Sampling>(
             compute(alloc, d, new, given.as_slice(), parent)
         }
     }
+}
+
+/// The style `base` with the values laid over it that running transitions give at time `t`, in microseconds (CSS
+/// Transitions 1, section 4). Takes memory for their values where more than two run.
+pub fn with_running(
+    alloc: Global,
+    base: &Style,
+    running: &[(PropertyId, Running)],
+    t: Micros,
+) -> Result<Style, AllocError>
+    requires { AreRunning running.now }
+    ensures { IfOk result (λ s. s ≡ style_with base.now (transitioned_at running.now t.0)) }
+{
+    match running {
+        [] => Style::layered(alloc, base, &[]),
+        [one] => Style::layered(alloc, base, &[given_at(one, t)]),
+        [one, other] => {
+            let given = [given_at(one, t), given_at(other, t)];
+            Style::layered(alloc, base, &given)
+        }
+        _ => {
+            let given = values_at(alloc, running, t)?;
+            Style::layered(alloc, base, given.as_slice())
+        }
+    }
+}
+
+/// Whether none of the running transitions is of the font size, which the values of other properties hang on.
+pub fn keep_font_size(running: &[(PropertyId, Running)]) -> bool
+    ensures { OnTrue result (kept_for PropertyId.FontSize running.now ≡ None) }
+{
+    running_for(running, PropertyId::FontSize).is_none()
+}
+
+fn running_for(running: &[(PropertyId, Running)], p: PropertyId) -> Option<Running>
+    ensures { result ≡ kept_for p running.now }
+{
+    running
+        .iter()
+        .find(|item| item.0.number() == p.number())
+        .map(|item| item.1)
 }
 
 /// What an element of this style hands down, where it inherits from this parent.

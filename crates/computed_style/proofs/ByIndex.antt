@@ -1,6 +1,8 @@
 -- Lists that have an item for each property or each timing list.
-use Rattle.std.proofs.Common.{◌≡◌, ℕ, zero, suc, ◌<◌, refl, sym, ◌∙◌, subst, arith, zero-add}
-use Rattle.std.specs.Prelude.{List, [], ◌∷◌, length, slice_index_or}
+use Rattle.std.proofs.Common.{◌≡◌, ℕ, zero, suc, ◌+◌, ◌<◌, refl, sym, ◌∙◌, subst, arith, zero-add}
+use Rattle.std.specs.Prelude.{List, [], ◌∷◌, length, set, slice_index_or}
+use Rattle.std.proofs.lemmas.List.{get_or-set_other, get_or-set_same}
+use borrow.Author.Count.{below_more}
 use Rattle.std.proofs.lemmas.Option.{slice_get-get_or}
 use Rattle.value_types.proofs.PropertyLemmas.{counts_up, number_at}
 use Rattle.value_types.specs.Properties.{all_properties, number_of}
@@ -21,6 +23,14 @@ same_by_index (x ∷ xs) (y ∷ ys) d count each =
     let head : x ≡ y = each 0 (omega arith) in
     let tail : xs ≡ ys = same_by_index xs ys d (omega arith) (λ i l. each (suc i) (omega arith)) in
     cc
+
+-- what holds of the items below one and of a new one there
+pub set_one_more : {A : Type 0} (P : ℕ → A → Type 0) (xs : List A) (i : ℕ) (x d : A) → length xs ≡ 24 → i < 24
+    → ((k : ℕ) → k < i → P k (slice_index_or xs k d)) → P i x → (k : ℕ) → k < i + 1 → P k (slice_index_or (set xs i x) k d)
+set_one_more P xs i x d count small below here =
+    below_more (λ k. P k (slice_index_or (set xs i x) k d)) i
+    (λ k less. subst (P k) (sym (get_or-set_other xs i k x d (λ e. omega arith))) (below k less))
+    (subst (P i) (sym (get_or-set_same xs i x d (rw count small))) here)
 
 -- the property of a number
 unfoldable pub property_at : ℕ → PropertyId

@@ -1,6 +1,6 @@
 -- Computed styles (CSS Cascade 5, section 6 "Cascading", section 7 "Defaulting"): the value of each property by the table of
 -- precedence, font-size first.
-use Rattle.std.specs.Prelude.{List, [], ◌∷◌, map, Option, None, Some, option_map}
+use Rattle.std.specs.Prelude.{◌≡◌, List, [], ◌∷◌, map, Option, None, Some, option_map}
 use Rattle.std.specs.Option.{option_or}
 use Rattle.fix_num.specs.declared.units.Fix.{Fix}
 use Rattle.computed_value.specs.Absolute.{absolute_of}
@@ -27,6 +27,10 @@ use Rattle.computed_style.specs.declared.inherited.InheritedValues.{InheritedVal
 -- that they build on
 abbrev pub AnimatedValues : Type 0
 AnimatedValues = PropertyId → Fix → Fix → Fix → Value → Option Value
+
+-- animations give no property a value
+abbrev pub GiveNothing : AnimatedValues → Type 0
+GiveNothing animated = (p : PropertyId) (parent own root : Fix) (under : Value) → animated p parent own root under ≡ None
 
 -- what a style is computed from: the winning declarations, what animations and transitions give, and what the parent hands
 -- down, which the root has none of

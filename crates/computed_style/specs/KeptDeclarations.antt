@@ -1,7 +1,7 @@
 -- Declarations as they are kept: what is declared alone.
-use Rattle.std.specs.Prelude.{List, All, map}
+use Rattle.std.specs.Prelude.{◌≡◌, Bool, false, List, All, length, map, None, slice_index_or}
 use Rattle.value_types.specs.ListValues.{IsListValueFor}
-use Rattle.value_types.specs.Properties.{all_properties}
+use Rattle.value_types.specs.Properties.{all_properties, number_of}
 use Rattle.value_types.specs.Validity.{IsDeclaredFor}
 use Rattle.value_types.specs.declared.declared.Declared.{Declared}
 use Rattle.value_types.specs.declared.list_value.ListName.{ListName}
@@ -38,8 +38,15 @@ AreDeclared ds = All (λ d. IsDeclaredFor d.0 d.1) ds
 abbrev pub AreListsDeclared : ListDeclarations → Type 0
 AreListsDeclared ds = All (λ d. IsListValueFor d.0 d.1) ds
 
--- all that is kept declares what it stands for
-pub record AreKept (i n : PropertyDeclarations) (il nl : ListDeclarations) : Type 0 where
+-- a property for which this says no, by its number, isn't declared
+abbrev pub TellsDeclared : List Bool → PropertyDeclarations → PropertyDeclarations → Type 0
+TellsDeclared declares important normal =
+    (p : PropertyId) → slice_index_or declares (number_of p) false ≡ false → (kept_for p important ≡ None) × (kept_for p normal ≡ None)
+
+-- all that is kept declares what it stands for, and which properties are declared is told
+pub record AreKept (declares : List Bool) (i n : PropertyDeclarations) (il nl : ListDeclarations) : Type 0 where
+  pub count : length declares ≡ 24
+  pub tells : TellsDeclared declares i n
   pub important : AreDeclared i
   pub normal : AreDeclared n
   pub important_lists : AreListsDeclared il

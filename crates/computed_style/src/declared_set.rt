@@ -1,22 +1,28 @@
 //! The winning declarations of an element.
 
-ghost use Rattle.std.specs.Prelude.{◌≡◌, ◌↔◌, [], ◌∷◌, IsTrue, IfOk, IfSome, OnErr, OnOk, option_copied};
-ghost use Rattle.std.specs.Bool.{OnTrue};
+ghost use Rattle.std.specs.Prelude.{◌≡◌, ◌↔◌, ℕ, ◌<◌, [], ◌∷◌, IsTrue, IfOk, IfSome, OnErr, OnOk, length, option_copied, slice_index_or, take, unwrap_or};
+ghost use Rattle.std.specs.Bool.{OnFalse, OnTrue};
+ghost use Rattle.timing_types.specs.TimingLists.{initial_animations};
 ghost use Rattle.value_types.specs.ListValues.{IsListValueFor};
+ghost use Rattle.value_types.specs.TransitionLists.{initial_transitions};
 ghost use Rattle.value_types.specs.Validity.{IsDeclaredFor};
 ghost use Rattle.computed_style.specs.ByProperty.{kept_for};
-ghost use Rattle.computed_style.specs.Winners.{AreDeclarations, AreWinnersFor, kept_for_list, list_winner_of, list_winners_of, no_declarations, place_of, winners_of, with_declaration, with_list_declaration};
+ghost use Rattle.computed_style.specs.ComputedStyles.{animation_lists_of, transition_lists_of};
+ghost use Rattle.computed_style.specs.Winners.{AreDeclarations, AreWinnersFor, kept_for_list, list_winner_of, list_winners_of, no_declarations, no_winners, place_of, winners_of, with_declaration, with_list_declaration};
 
+use crate::shared_winners::SharedWinners;
 use crate::winners::Winners;
 use std::alloc::{AllocError, Global};
 use std::marker::Model;
-use timing_types::Same;
-use value_types::{Declared, ListName, ListValue, PropertyId, Shared};
+use timing_types::{AnimationLists, Same};
+use value_types::{Declared, ListName, ListValue, PropertyId, Shared, TransitionLists};
 
 /// Winning declarations as they are collected: begin with none, put those that win, and finish. Contracts see
 /// them as the winners of each property and of each timing list.
 #[derive(Drop)]
 pub struct Winning {
+    /// Whether a property is declared, by its number.
+    declares: [bool; 24],
     important: Vec<(PropertyId, Declared)>,
     normal: Vec<(PropertyId, Declared)>,
     important_lists: Vec<(ListName, ListValue)>,
@@ -32,7 +38,7 @@ impl Model for Winning {
 
     ghost view = { λ w. declarations_in w.important.items w.normal.items w.important_lists.items w.normal_lists.items };
 
-    ghost invariant = { λ w. AreKept w.important.items w.normal.items w.important_lists.items w.normal_lists.items };
+    ghost invariant = { λ w. AreKept w.declares w.important.items w.normal.items w.important_lists.items w.normal_lists.items };
 }
 
 impl Winning {
@@ -41,6 +47,7 @@ impl Winning {
         ensures { result ≡ no_declarations }
     {
         Winning {
+            declares: [false; 24],
             important: Vec::new(alloc),
             normal: Vec::new(alloc),
             important_lists: Vec::new(alloc),
@@ -60,6 +67,7 @@ impl Winning {
         ensures ok { OnOk result (self.new ≡ with_declaration self.old p important declared) }
         ensures err { OnErr result (self.new ≡ self.old) }
     {
+        self.declares[p.number() as usize] = true;
         if important {
             put_first(&mut self.important, (p, declared))
         } else {
@@ -86,16 +94,30 @@ impl Winning {
         }
     }
 
-    /// The declarations, to be shared. Takes no memory where there is none.
+    /// The declarations, to be shared, and the timing lists that they give. Takes no memory where there is none.
     pub fn finish(self, alloc: Global) -> Result<DeclaredSet, AllocError>
         ensures { IfOk result (λ d. d ≡ self) }
     {
         if self.is_empty() {
             return Ok(DeclaredSet::empty());
         }
+        let winners = SharedWinners::new(alloc, self)?;
         Ok(DeclaredSet {
-            set: Some(Shared::new(alloc, self)?),
+            set: Some(Shared::new(alloc, winners)?),
         })
+    }
+
+    /// Whether the other keeps the same declarations in the same order.
+    fn is_kept_like(&self, other: &Winning) -> bool
+        ensures { OnTrue result (self.now ≡ other.now) }
+    {
+        are_declared_alike(self.important.as_slice(), other.important.as_slice())
+            && are_declared_alike(self.normal.as_slice(), other.normal.as_slice())
+            && are_lists_declared_alike(
+                self.important_lists.as_slice(),
+                other.important_lists.as_slice(),
+            )
+            && are_lists_declared_alike(self.normal_lists.as_slice(), other.normal_lists.as_slice())
     }
 
     fn is_empty(&self) -> bool
@@ -113,7 +135,14 @@ impl Winning {
         has_none(&self.normal_lists)
     }
 
-    fn winners(&self, p: PropertyId) -> Winners
+    /// Whether something is declared of the property.
+    pub(crate) fn declares(&self, p: PropertyId) -> bool
+        ensures { OnFalse result (winners_of self.now p ≡ no_winners) }
+    {
+        self.declares[p.number() as usize]
+    }
+
+    pub(crate) fn winners(&self, p: PropertyId) -> Winners
         ensures value { result ≡ winners_of self.now p }
         ensures bounds { AreDeclarations self.now }
     {
@@ -123,7 +152,7 @@ impl Winning {
         }
     }
 
-    fn list(&self, name: ListName, important: bool) -> Option<&ListValue>
+    pub(crate) fn list(&self, name: ListName, important: bool) -> Option<&ListValue>
         ensures value { option_copied result ≡ list_winner_of self.now name important }
         ensures bounds { IfSome result (λ v. IsListValueFor name v.now) }
         ensures all { AreDeclarations self.now }
@@ -136,13 +165,43 @@ impl Winning {
     }
 }
 
+/// Whether these are the same declarations of properties, in the same order.
+fn are_declared_alike(a: &[(PropertyId, Declared)], b: &[(PropertyId, Declared)]) -> bool
+    ensures { OnTrue result (a.now ≡ b.now) }
+{
+    if a.len() != b.len() {
+        return false;
+    }
+    for (i, item) in a.iter().enumerate() {
+        if item.0 != b[i].0 || !item.1.is_same(&b[i].1) {
+            return false;
+        }
+    }
+    true
+}
+
+/// Whether these are the same declarations of timing lists, in the same order.
+fn are_lists_declared_alike(a: &[(ListName, ListValue)], b: &[(ListName, ListValue)]) -> bool
+    ensures { OnTrue result (a.now ≡ b.now) }
+{
+    if a.len() != b.len() {
+        return false;
+    }
+    for (i, item) in a.iter().enumerate() {
+        if item.0 != b[i].0 || !item.1.is_same(&b[i].1) {
+            return false;
+        }
+    }
+    true
+}
+
 /// The winning declarations of an element, of each property and of each timing list (CSS Cascade 5, section
 /// 6), shared and never changed. What wins is a declared value of its property, or of its list. Where nothing
 /// is declared it takes no memory.
 #[derive(Drop)]
 pub struct DeclaredSet {
     /// None where nothing is declared.
-    set: Option<Shared<Winning>>,
+    set: Option<Shared<SharedWinners>>,
 }
 
 impl Model for DeclaredSet {
@@ -173,7 +232,7 @@ impl DeclaredSet {
                 important: None,
                 normal: None,
             },
-            Some(winning) => winning.get().winners(p),
+            Some(set) => set.get().winning().winners(p),
         }
     }
 
@@ -186,7 +245,49 @@ impl DeclaredSet {
     {
         match &self.set {
             None => None,
-            Some(winning) => winning.get().list(name, important),
+            Some(set) => set.get().winning().list(name, important),
+        }
+    }
+
+    /// Whether something is declared of the property.
+    pub fn declares(&self, p: PropertyId) -> bool
+        ensures { OnFalse result (winners_of self.now p ≡ no_winners) }
+    {
+        match &self.set {
+            None => false,
+            Some(set) => set.get().winning().declares(p),
+        }
+    }
+
+    /// The lists that time transitions; `None` where none of them is declared. Takes no memory.
+    pub fn transition_lists(&self) -> Result<Option<Shared<TransitionLists>>, AllocError>
+        ensures { IfOk result (λ lists. unwrap_or lists initial_transitions ≡ transition_lists_of self.now) }
+    {
+        match &self.set {
+            None => Ok(None),
+            Some(set) => set.get().transition_lists(),
+        }
+    }
+
+    /// The lists that time animations; `None` where none of them is declared. Takes no memory.
+    pub fn animation_lists(&self) -> Result<Option<Shared<AnimationLists>>, AllocError>
+        ensures { IfOk result (λ lists. unwrap_or lists initial_animations ≡ animation_lists_of self.now) }
+    {
+        match &self.set {
+            None => Ok(None),
+            Some(set) => set.get().animation_lists(),
+        }
+    }
+
+    /// True only where both have the same declarations: where both were collected in the same order, as those of a kind
+    /// of elements mostly are. Takes much less time than `is_same` where they differ.
+    pub fn is_kept_like(&self, other: &DeclaredSet) -> bool
+        ensures { OnTrue result (self.now ≡ other.now) }
+    {
+        match (&self.set, &other.set) {
+            (None, None) => true,
+            (Some(a), Some(b)) => a.get().winning().is_kept_like(b.get().winning()),
+            _ => false,
         }
     }
 
@@ -196,8 +297,8 @@ impl DeclaredSet {
     {
         match &self.set {
             None => Ok(DeclaredSet::empty()),
-            Some(winning) => Ok(DeclaredSet {
-                set: Some(winning.copy()?),
+            Some(set) => Ok(DeclaredSet {
+                set: Some(set.copy()?),
             }),
         }
     }
@@ -236,7 +337,8 @@ const LISTS: [ListName; 12] = [
 
 impl Same for DeclaredSet {
     fn is_same(&self, other: &DeclaredSet) -> bool {
-        have_same_properties(self, other) && have_same_lists(self, other)
+        self.is_kept_like(other)
+            || (have_same_properties(self, other) && have_same_lists(self, other))
     }
 }
 

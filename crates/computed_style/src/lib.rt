@@ -8,8 +8,10 @@
 mod declared_set;
 mod inherited;
 mod laws;
+mod lists;
 mod same;
 mod sampling;
+mod shared_winners;
 mod style;
 mod winners;
 

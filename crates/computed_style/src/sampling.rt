@@ -1,8 +1,10 @@
 //! What animations give the properties of an element.
 
 ghost use Rattle.std.specs.Prelude.{◌≡◌, IfSome};
+ghost use Rattle.std.specs.Bool.{OnTrue};
 ghost use Rattle.value_types.specs.Ranges.{IsSize};
 ghost use Rattle.value_types.specs.Validity.{IsValid};
+ghost use Rattle.computed_style.specs.ComputedStyles.{GiveNothing};
 
 use fix_num::Fix;
 use value_types::{PropertyId, Value};
@@ -35,6 +37,10 @@ pub trait Sampling {
         requires root { IsSize root_size }
         ensures { result ≡ animated_value self.now p parent_size own_size root_size under };
 
+    /// True only where it gives no property a value, whatever the sizes and the value below. Takes no memory.
+    fn gives_nothing(&self) -> bool
+        ensures { OnTrue result (GiveNothing (animated_value self.now)) };
+
     // what is given is a value of the property
     ghost valid: { (s : Self) (p : PropertyId) (parent own root : Fix) (under : Value) → IsValid p under → IsSize parent → IsSize own → IsSize root
         → IfSome (animated_value s p parent own root under) (IsValid p) };
@@ -60,5 +66,9 @@ impl Sampling for NoSampling {
         _under: Value,
     ) -> Option<Value> {
         None
+    }
+
+    fn gives_nothing(&self) -> bool {
+        true
     }
 }

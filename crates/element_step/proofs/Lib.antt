@@ -1,2 +1,3 @@
 pub mod Rendered
+pub mod Unchanged
 pub mod Working

@@ -3,7 +3,6 @@ use Rattle.std.proofs.Common.{◌≡◌, refl, sym, ◌∙◌, ap}
 use Rattle.std.specs.Prelude.{Bool, true, false, ◌==◌, ◌&&◌, if◌then◌else◌, List, [], ◌∷◌, ◌++◌, length, Option}
 use Rattle.std.specs.List.{list_all}
 use Rattle.computed_style.specs.Styles.{ComputedStyle, value_of}
-use Rattle.computed_style.specs.declared.inherited.Down.{Down}
 use Rattle.computed_style.specs.declared.inherited.InheritedValues.{InheritedValues}
 use Rattle.change_styles.specs.Inheritance.{handed_down}
 use Rattle.change_styles.specs.ThreeStyles.{after_change_style, current_style, no_animations}
@@ -64,7 +63,8 @@ settled_is x ts after now t a n =
     ∙ ap (λ s. (length (transitions_of x).running == 0) && list_all (has_ended x.event.time.0) x.animations && have_same_values s now) a
     ∙ ap (λ s. (length (transitions_of x).running == 0) && list_all (has_ended x.event.time.0) x.animations && have_same_values (after_of x) s) n
 
-same_itself : (s : ComputedStyle) (ps : List PropertyId) → list_all (λ p. is_same (value_of s p) (value_of s p)) ps ≡ true
+-- a style has its own values
+pub same_itself : (s : ComputedStyle) (ps : List PropertyId) → list_all (λ p. is_same (value_of s p) (value_of s p)) ps ≡ true
 same_itself s [] = refl
 same_itself s (p ∷ ps) =
     ap (λ b. b && list_all (λ q. is_same (value_of s q) (value_of s q)) ps) ((same_tells (value_of s p) (value_of s p)).1 refl) ∙ same_itself s ps

@@ -2,7 +2,6 @@
 use Rattle.std.proofs.Common.{◌≡◌, ◌∙◌, refl, ap, arith, ℕ, Bool, true, false, List, [], ◌∷◌, length, Option}
 use Rattle.std.specs.Prelude.{◌==◌}
 use Rattle.std.proofs.lemmas.Bool.{eqb-true}
-use Rattle.animation_names.specs.NameLists.{names_update}
 use Rattle.animation_names.specs.Numbered.{given_below}
 use Rattle.animation_names.specs.Updates.{animations_after, gone_after, paired_of}
 use Rattle.computed_style.specs.ComputedStyles.{AnimatedValues}
@@ -18,7 +17,7 @@ use Rattle.style_data.specs.declared.animation.AnimationState.{AnimationState}
 use Rattle.timing_types.specs.TimingLists.{AnimationValues, initial_animations}
 use Rattle.transition_update.specs.declared.event.StyleChangeEvent.{StyleChangeEvent}
 use Rattle.element_step.specs.Rendering.{is_rendered}
-use Rattle.element_step.specs.Updates.{ElementUpdate, element_update}
+use Rattle.element_step.specs.Updates.{element_update}
 use Rattle.element_step.specs.Works.{DocumentEvent, animated_values_in, animation_lists_after, animations_before, animations_updated, element_declarations, handed_by, entry_at, event_at, from_parent, outcome_in, paired_at, update_at}
 
 -- ---- animations

@@ -1,5 +1,5 @@
 -- The update of each element of a document at one style change event (CSS Transitions 1, section 3; CSS Animations 1, section 3).
-use Rattle.std.specs.Prelude.{ℕ, Bool, true, false, List, [], Option, None, Some, option_map, unwrap_or, if◌then◌else◌}
+use Rattle.std.specs.Prelude.{ℕ, Bool, true, false, List, [], Option, None, option_map, unwrap_or, if◌then◌else◌}
 use Rattle.animation_names.specs.Samples.{samples_of}
 use Rattle.animation_names.specs.Updates.{PairedLists, paired_of}
 use Rattle.cascade_sort.specs.Winning.{declared_of}

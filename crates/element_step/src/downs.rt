@@ -4,6 +4,7 @@ ghost use Rattle.std.specs.Prelude.{◌≡◌, IfSome, false, option_copied, opt
 ghost use Rattle.computed_style.specs.Styles.{inherited_of};
 ghost use Rattle.value_types.specs.Ranges.{IsSize};
 ghost use Rattle.element_step.specs.Settling.{is_same_inherited};
+ghost use Rattle.std.specs.Bool.{OnTrue};
 ghost use Rattle.std.specs.Option.{option_map_or};
 ghost use Rattle.element_step.specs.Updates.{after_parent, before_parent, changed_from, differs, down_with, now_parent};
 
@@ -113,6 +114,17 @@ fn differs(was: Option<&Inherited>, now: Inherited) -> bool
     match was {
         None => true,
         Some(was) => !is_same_inherited(*was, now),
+    }
+}
+
+/// Whether two styles inherit the same.
+pub(crate) fn inherit_alike(a: Option<&Inherited>, b: Option<&Inherited>) -> bool
+    ensures { OnTrue result (option_copied a.entry ≡ option_copied b.entry) }
+{
+    match (a, b) {
+        (None, None) => true,
+        (Some(a), Some(b)) => is_same_inherited(*a, *b),
+        _ => false,
     }
 }
 

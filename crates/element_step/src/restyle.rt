@@ -1,27 +1,35 @@
 //! The styles and transitions of an element at a style change event.
 
-ghost use Rattle.std.specs.Prelude.{◌≡◌, IfOk, IfSome, IsFalse, IsTrue, None, Some, option_copied, if◌then◌else◌};
+ghost use Rattle.std.specs.Prelude.{◌≡◌, ◌==◌, ◌&&◌, IfOk, IfSome, IsFalse, IsTrue, None, Some, length, option_copied, if◌then◌else◌};
+ghost use Rattle.std.specs.Bool.{OnTrue};
+ghost use Rattle.std.specs.List.{list_all};
 ghost use Rattle.change_styles.specs.Inheritance.{handed_down};
-ghost use Rattle.change_styles.specs.ThreeStyles.{before_change_style};
+ghost use Rattle.change_styles.specs.ThreeStyles.{AreRunning, after_change_style, before_change_style, current_style};
+ghost use Rattle.style_data.specs.TransitionSets.{no_transitions};
 ghost use Rattle.style_data.specs.Transitions.{IsMoment};
 ghost use Rattle.transition_update.specs.Updates.{all_cancelled, cancelled_by, style_change, transitions_after};
 ghost use Rattle.value_types.specs.Ranges.{IsSize};
 ghost use Rattle.element_step.specs.Rendering.{is_rendered};
-ghost use Rattle.element_step.specs.Restyling.{IsRestyled};
-ghost use Rattle.element_step.specs.Updates.{before_parent, cancelled_from, element_update, transitions_from};
+ghost use Rattle.element_step.specs.Restyling.{IsRestyled, IsUnchanged};
+ghost use Rattle.element_step.specs.Settling.{has_ended, have_same_values};
+ghost use Rattle.element_step.specs.Updates.{after_parent, before_parent, cancelled_from, element_update, now_parent, transitions_from};
 
-use crate::downs::{after_parent, before_parent, hand_down, now_parent};
+use crate::downs::{after_parent, before_parent, hand_down, inherit_alike, now_parent};
 use crate::rendering::is_rendered;
-use crate::settling::{have_ended, is_settled};
-use change_styles::{after_style, before_style, handed_down, now_style};
-use fix_num::Fix;
+use crate::settling::{have_all_ended, have_ended, is_settled};
+use change_styles::{
+    after_style, before_style, handed_down, keep_font_size, now_style, with_running,
+};
+use fix_num::{Fix, Micros};
 use std::alloc::{AllocError, Global};
 use style_data::{
-    Animation, DeclaredSet, Down, Entry, Gone, Inherited, NoSampling, Sampling, Style, Transitions,
+    Animation, DeclaredSet, Down, Entry, Gone, Inherited, NoSampling, Running, Sampling, Style,
+    Transitions,
 };
 use transition_update::{
     StyleChangeEvent, UpdatedTransitions, cancel_transitions, update_transitions,
 };
+use value_types::PropertyId;
 
 /// What a style change event makes of an element's styles and transitions.
 #[derive(Drop)]
@@ -83,18 +91,13 @@ fn restyle_rendered<A: Sampling, B: Sampling>(
 {
     let above_after = after_parent(parent);
     let after = after_style(alloc, declared, above_after.as_ref(), old)?;
-    let changes = change_transitions(alloc, entry, &after, parent, old, event)?;
-    let above_now = now_parent(parent);
+    let changes = change_transitions(alloc, entry, declared, &after, parent, old, event)?;
     let running = changes.transitions.running();
-    let now = now_style(
-        alloc,
-        declared,
-        running,
-        event.time,
-        above_now.as_ref(),
-        new,
+    let current = current_of(
+        alloc, declared, running, animations, &after, parent, old, new, event.time,
     )?;
-    let settled = is_settled(running, animations, &after, &now, event.time);
+    let Current { now, settled } = current;
+    let above_now = now_parent(parent);
     let handed_after = handed_down(&after, above_after.as_ref());
     let handed_now = handed_down(&now, above_now.as_ref());
     let ChangedTransitions {
@@ -124,12 +127,14 @@ struct ChangedTransitions {
 fn change_transitions<A: Sampling>(
     alloc: Global,
     entry: &Entry,
+    declared: &DeclaredSet,
     after: &Style,
     parent: Option<&Down>,
     old: &A,
     event: StyleChangeEvent,
 ) -> Result<ChangedTransitions, AllocError>
-    requires { IsMoment event.time.0 }
+    requires time { IsMoment event.time.0 }
+    requires after { after.now ≡ after_change_style declared.now (A.animated_value old.now) (after_parent (option_copied parent)) }
     ensures transitions { IfOk result (λ c. c.transitions ≡ transitions_from entry.now.rendered (style_change (before_change_style entry.now (A.animated_value old.now) event.time.0 (before_parent (option_copied parent.entry))) after.now event) entry.now.effects.transitions) }
     ensures gone { IfOk result (λ c. c.gone.items ≡ cancelled_from entry.now.rendered (style_change (before_change_style entry.now (A.animated_value old.now) event.time.0 (before_parent (option_copied parent.entry))) after.now event) entry.now.effects.transitions) }
     ensures before { IfOk result (λ c. c.before ≡ (if entry.now.rendered then Some (handed_down (before_parent (option_copied parent.entry)) (before_change_style entry.now (A.animated_value old.now) event.time.0 (before_parent (option_copied parent.entry)))) else None)) }
@@ -142,7 +147,14 @@ fn change_transitions<A: Sampling>(
         });
     }
     let above = before_parent(parent);
-    let before = before_style(alloc, entry, event.time, above.as_ref(), old)?;
+    if has_no_transition(entry) && is_unchanged(entry, declared, parent) {
+        return Ok(ChangedTransitions {
+            transitions: Transitions::new(alloc),
+            gone: Vec::new(alloc),
+            before: Some(handed_down(after, above.as_ref())),
+        });
+    }
+    let before = before_change(alloc, entry, declared, after, parent, old, event.time)?;
     let handed = handed_down(&before, above.as_ref());
     let updated = update_kept(alloc, entry, &before, after, event)?;
     Ok(ChangedTransitions {
@@ -150,6 +162,46 @@ fn change_transitions<A: Sampling>(
         gone: updated.gone,
         before: Some(handed),
     })
+}
+
+/// The before-change style: the after-change style with the values of the running transitions, where nothing else
+/// tells them apart.
+fn before_change<A: Sampling>(
+    alloc: Global,
+    entry: &Entry,
+    declared: &DeclaredSet,
+    after: &Style,
+    parent: Option<&Down>,
+    old: &A,
+    t: Micros,
+) -> Result<Style, AllocError>
+    requires { after.now ≡ after_change_style declared.now (A.animated_value old.now) (after_parent (option_copied parent)) }
+    ensures { IfOk result (λ s. s ≡ before_change_style entry.now (A.animated_value old.now) t.0 (before_parent (option_copied parent.entry))) }
+{
+    if is_unchanged(entry, declared, parent) && keep_font_size(entry.running()) {
+        return with_running(alloc, after, entry.running(), t);
+    }
+    let above = before_parent(parent);
+    before_style(alloc, entry, t, above.as_ref(), old)
+}
+
+/// Whether the before-change style is the after-change style but for transitions: the declarations are the same, and
+/// both inherit the same.
+fn is_unchanged(entry: &Entry, declared: &DeclaredSet, parent: Option<&Down>) -> bool
+    ensures { OnTrue result (IsUnchanged entry.now declared.now (option_copied parent.entry)) }
+{
+    let before = before_parent(parent);
+    let after = after_parent(parent);
+    inherit_alike(before.as_ref(), after.as_ref()) && entry.declared().is_kept_like(declared)
+}
+
+fn has_no_transition(entry: &Entry) -> bool
+    ensures { OnTrue result (entry.now.effects.transitions ≡ no_transitions) }
+{
+    match entry.effects() {
+        None => true,
+        Some(effects) => effects.transitions().is_empty(),
+    }
 }
 
 /// The rules of starting, applied to the entry's transitions.
@@ -168,6 +220,49 @@ fn update_kept(
         Some(effects) => { update_transitions(alloc, effects.transitions(), before, after, event) }
         None => update_transitions(alloc, &Transitions::new(alloc), before, after, event),
     }
+}
+
+/// The current style, and whether nothing will change by time alone.
+#[derive(Drop)]
+struct Current {
+    now: Style,
+    settled: bool,
+}
+
+/// The current style of a rendered element: the after-change style with the values of its transitions, where it inherits
+/// the same and no animation gives a value.
+fn current_of<A: Sampling, B: Sampling>(
+    alloc: Global,
+    declared: &DeclaredSet,
+    running: &[(PropertyId, Running)],
+    animations: &[Animation],
+    after: &Style,
+    parent: Option<&Down>,
+    old: &A,
+    new: &B,
+    t: Micros,
+) -> Result<Current, AllocError>
+    requires time { IsMoment t.0 }
+    requires running { AreRunning running.now }
+    requires after { after.now ≡ after_change_style declared.now (A.animated_value old.now) (after_parent (option_copied parent)) }
+    ensures now { IfOk result (λ c. c.now ≡ current_style declared.now (B.animated_value new.now) running.now t.0 (now_parent (option_copied parent.entry))) }
+    ensures settled { IfOk result (λ c. c.settled ≡ ((length running.now == 0) && list_all (has_ended t.0) animations.now && have_same_values after.now c.now)) }
+{
+    let above_after = after_parent(parent);
+    let above_now = now_parent(parent);
+    if inherit_alike(above_now.as_ref(), above_after.as_ref())
+        && old.gives_nothing()
+        && new.gives_nothing()
+        && keep_font_size(running)
+    {
+        return Ok(Current {
+            now: with_running(alloc, after, running, t)?,
+            settled: have_all_ended(running, animations, t),
+        });
+    }
+    let now = now_style(alloc, declared, running, t, above_now.as_ref(), new)?;
+    let settled = is_settled(running, animations, after, &now, t);
+    Ok(Current { now, settled })
 }
 
 /// An element that isn't rendered: all its transitions are cancelled, and it has neither these nor animations.

@@ -26,6 +26,18 @@ pub(crate) fn is_settled(
     running.is_empty() && have_ended(animations, t) && have_same_values(after, now)
 }
 
+/// Whether no transition runs, and all animations have ended.
+pub(crate) fn have_all_ended(
+    running: &[(PropertyId, Running)],
+    animations: &[Animation],
+    t: Micros,
+) -> bool
+    requires { IsMoment t.0 }
+    ensures { result ≡ (length running.now == 0) && list_all (has_ended t.0) animations.now }
+{
+    running.is_empty() && have_ended(animations, t)
+}
+
 /// Whether all animations have come to their after phase.
 pub(crate) fn have_ended(animations: &[Animation], t: Micros) -> bool
     requires { IsMoment t.0 }

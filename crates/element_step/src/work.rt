@@ -15,7 +15,6 @@ use animation_names::{Paired, match_names, sampled};
 use cascade_sort::declared;
 use doc_tree::Tree;
 use fix_num::{Fix, Micros};
-use mini_cascade::animation_lists;
 use pass_core::{Step, TreeWork};
 use sheet_types::Sheets;
 use std::alloc::{AllocError, Global};
@@ -216,7 +215,7 @@ fn update_animations(
     ensures ascending { IfOk result (λ p. AreAscending p.animations.items) }
 {
     let before = animations_before(entry, rendered);
-    let lists = lists_after(alloc, declared, rendered)?;
+    let lists = lists_after(declared, rendered)?;
     match lists {
         Some(lists) => pair(alloc, before, lists.get(), &work.sheets, event),
         None if before.is_empty() => Ok(none(alloc)),
@@ -239,14 +238,13 @@ fn animations_before(entry: &Entry, rendered: bool) -> &[Animation]
 
 /// The lists that time its animations; `None` where they are initial, as those of an element that isn't rendered.
 fn lists_after(
-    alloc: Global,
     declared: &DeclaredSet,
     rendered: bool,
 ) -> Result<Option<Shared<AnimationLists>>, AllocError>
     ensures { IfOk result (λ lists. unwrap_or lists initial_animations ≡ animation_lists_after rendered declared.now) }
 {
     if rendered {
-        animation_lists(alloc, declared)
+        declared.animation_lists()
     } else {
         Ok(None)
     }

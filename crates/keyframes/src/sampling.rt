@@ -1,5 +1,6 @@
 //! What samples give the properties of an element.
 ghost use Rattle.std.specs.Prelude.{◌≡◌, [], ◌∷◌, ◌++◌, None, OnOk, OnErr};
+ghost use Rattle.std.specs.Bool.{OnTrue};
 ghost use Rattle.value_types.specs.Ranges.{IsSize};
 ghost use Rattle.value_types.specs.Validity.{IsValid};
 ghost use Rattle.keyframes.specs.Last.{last_given};
@@ -58,6 +59,16 @@ impl Sampling for Sampled {
             under,
         )
     }
+
+    fn gives_nothing(&self) -> bool {
+        has_none(self.samples.as_slice())
+    }
+}
+
+fn has_none(samples: &[AnimationSample]) -> bool
+    ensures { OnTrue result (samples.now ≡ []) }
+{
+    samples.is_empty()
 }
 
 /// The value of the last sample that gives one.

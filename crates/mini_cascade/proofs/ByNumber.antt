@@ -17,14 +17,6 @@ use Rattle.computed_style.proofs.ByIndex.{every_property, number-property_at, pr
 use Rattle.computed_style.proofs.EveryProperty.{at_property}
 use Rattle.computed_style.proofs.Tables.{number_small}
 
--- what holds of the values below one and of a new one there
-pub set_one_more : (P : ℕ → Value → Type 0) (values : List Value) (i : ℕ) (v : Value) → length values ≡ 24 → i < 24
-    → ((k : ℕ) → k < i → P k (slice_index_or values k Auto)) → P i v → (k : ℕ) → k < i + 1 → P k (slice_index_or (set values i v) k Auto)
-set_one_more P values i v count small below here =
-    below_more (λ k. P k (slice_index_or (set values i v) k Auto)) i
-    (λ k less. subst (P k) (sym (get_or-set_other values i k v Auto (λ e. omega arith))) (below k less))
-    (subst (P i) (sym (get_or-set_same values i v Auto (rw count small))) here)
-
 -- values that are a table's at each number
 pub table_of : (f : PropertyId → Value) (values : List Value) → length values ≡ 24 → ((k : ℕ) → k < 24 → slice_index_or values k Auto ≡ f (property_at k))
     → values ≡ map f all_properties

@@ -1,5 +1,5 @@
 -- Values of the cascade by their parts.
-use Rattle.std.proofs.Common.{◌≡◌, refl, sym, ◌∙◌, ap, inl, inr}
+use Rattle.std.proofs.Common.{◌≡◌, refl, sym, ◌∙◌, ap, subst, inl, inr}
 use Rattle.std.specs.Prelude.{◌≢◌, ◌⊎◌, Bool, false, is_some, Result, Ok, Err, IfOk, List, [], ◌∷◌, map, Option, None, Some, option_map, unwrap_or}
 use Rattle.std.proofs.lemmas.Bool.{cases_eq}
 use Rattle.std.proofs.lemmas.List.{get_or-set_other}
@@ -13,7 +13,7 @@ use Rattle.value_types.specs.declared.property.PropertyId.TheVariants.{FontSize}
 use Rattle.value_types.specs.declared.value.Value.{Value}
 use Rattle.value_types.specs.declared.value.Value.TheVariants.{Auto}
 use Rattle.computed_style.specs.ByProperty.{kept_for}
-use Rattle.computed_style.specs.ComputedStyles.{FontSizes, StyleSources, animation_lists_of, cascaded_value, computed_font_size, computed_style, computed_value, declared_value, first_of, font_sizes, inherited_value, parent_size, transition_lists_of}
+use Rattle.computed_style.specs.ComputedStyles.{AnimatedValues, FontSizes, GiveNothing, StyleSources, animated_value, animation_lists_of, cascaded_value, computed_font_size, computed_style, computed_value, declared_value, first_of, font_sizes, important_value, inherited_value, normal_value, parent_size, transition_lists_of, underlying_value}
 use Rattle.computed_style.specs.Styles.{pixels_of_length, style_of_values, style_with, values_with}
 use Rattle.computed_style.specs.Winners.{no_winners, with_winner, winners_of}
 use Rattle.computed_style.specs.declared.winners.Winners.{Winners}
@@ -21,7 +21,7 @@ use Rattle.computed_style.proofs.ByIndex.{same_by_property}
 use Rattle.computed_style.proofs.EveryProperty.{at_property}
 use Rattle.computed_style.proofs.StyleLemmas.{length-values_with, value_at-values_with}
 use Rattle.computed_style.proofs.Tables.{same_property}
-use Rattle.mini_cascade.specs.Sources.{computed_values, with_declared, with_transitioned}
+use Rattle.mini_cascade.specs.Sources.{GiveAlike, computed_values, with_animated, with_declared, with_transitioned}
 
 -- the font sizes around an element whose font size is computed
 abbrev pub sizes_of : StyleSources → FontSizes
@@ -129,6 +129,57 @@ pub style-on_top : (x : StyleSources) → kept_for FontSize x.transitioned ≡ N
     → computed_style x ≡ style_with (computed_style (with_transitioned x [])) x.transitioned
 unfolding computed_style
 style-on_top x none = ap (λ vs. style_of_values vs (transition_lists_of x.declared) (animation_lists_of x.declared)) (values-on_top x none)
+
+-- ---- properties to which nothing gives a value
+
+first_none : (a b c d : Option Value) (otherwise : Value) → a ≡ None → b ≡ None → c ≡ None → d ≡ None → first_of (a ∷ b ∷ c ∷ d ∷ []) otherwise ≡ otherwise
+first_none a b c d otherwise ea eb ec ed = rw (ea, eb, ec, ed) refl
+
+cascaded_value-inherited : (x : StyleSources) (sizes : FontSizes) (p : PropertyId) → x.transitioned ≡ [] → GiveNothing x.animated → winners_of x.declared p ≡ no_winners
+    → cascaded_value x sizes p ≡ inherited_value x.parent p
+cascaded_value-inherited x sizes p empty nothing none =
+    first_none (kept_for p x.transitioned) (important_value x sizes p) (animated_value x sizes p) (normal_value x sizes p) (inherited_value x.parent p)
+    (ap (λ (given : List (PropertyId × Value)). kept_for p given) empty)
+    (ap (λ (w : Winners). option_map (declared_value x.parent sizes p) w.important) none)
+    (nothing p sizes.parent sizes.own sizes.root (underlying_value x sizes p))
+    (ap (λ (w : Winners). option_map (declared_value x.parent sizes p) w.normal) none)
+
+-- it is inherited, or initial
+pub computed_value-inherited : (x : StyleSources) (p : PropertyId) → x.transitioned ≡ [] → GiveNothing x.animated → winners_of x.declared p ≡ no_winners
+    → computed_value x p ≡ inherited_value x.parent p
+computed_value-inherited x p empty nothing none = elim (is_font_size p) [
+  | inl is ↦
+      subst (λ q. winners_of x.declared q ≡ no_winners → computed_value x q ≡ inherited_value x.parent q) (sym is)
+      (λ size_none. cascaded_value-inherited x (font_sizes x.parent (parent_size x.parent)) FontSize empty nothing size_none) none
+  | inr other ↦ computed_value-other x p other ∙ cascaded_value-inherited x (sizes_of x) p empty nothing none
+]
+
+-- ---- animations that give the same
+
+cascaded_value-animated : (x : StyleSources) (animated : AnimatedValues) (sizes : FontSizes) (p : PropertyId) → GiveAlike x.animated animated
+    → cascaded_value x sizes p ≡ cascaded_value (with_animated x animated) sizes p
+cascaded_value-animated x animated sizes p alike =
+    ap (λ o. first_of (kept_for p x.transitioned ∷ important_value x sizes p ∷ o ∷ normal_value x sizes p ∷ []) (inherited_value x.parent p))
+    (alike p sizes.parent sizes.own sizes.root (underlying_value x sizes p))
+
+computed_value-animated : (x : StyleSources) (animated : AnimatedValues) (p : PropertyId) → GiveAlike x.animated animated
+    → computed_value x p ≡ computed_value (with_animated x animated) p
+computed_value-animated x animated p alike = elim (is_font_size p) [
+  | inl is ↦ rw is (cascaded_value-animated x animated (font_sizes x.parent (parent_size x.parent)) FontSize alike)
+  | inr other ↦
+      computed_value-other x p other
+      ∙ ap (λ size. cascaded_value x (font_sizes x.parent (pixels_of_length size)) p)
+      (cascaded_value-animated x animated (font_sizes x.parent (parent_size x.parent)) FontSize alike)
+      ∙ cascaded_value-animated x animated (sizes_of (with_animated x animated)) p alike
+      ∙ sym (computed_value-other (with_animated x animated) p other)
+]
+
+pub style-animated : (x : StyleSources) (animated : AnimatedValues) → GiveAlike x.animated animated → computed_style x ≡ computed_style (with_animated x animated)
+unfolding computed_style
+style-animated x animated alike =
+    ap (λ vs. style_of_values vs (transition_lists_of x.declared) (animation_lists_of x.declared))
+    (same_by_property (map (computed_value x) all_properties) (map (computed_value (with_animated x animated)) all_properties) Auto refl refl
+    (λ p. at_property (computed_value x) Auto p ∙ computed_value-animated x animated p alike ∙ sym (at_property (computed_value (with_animated x animated)) Auto p)))
 
 -- ---- styles from their parts
 

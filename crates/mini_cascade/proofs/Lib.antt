@@ -1,4 +1,3 @@
 pub mod ByNumber
 pub mod CascadeLemmas
-pub mod ListLemmas
 pub mod Validity

@@ -1,5 +1,5 @@
 -- What styles may be computed from, and changes of it (CSS Cascade 5, section 6 "Cascading", section 7 "Defaulting").
-use Rattle.std.specs.Prelude.{List, map, Bool, IfSome}
+use Rattle.std.specs.Prelude.{◌≡◌, List, map, Bool, IfSome}
 use Rattle.fix_num.specs.declared.units.Fix.{Fix}
 use Rattle.value_types.specs.Properties.{all_properties}
 use Rattle.value_types.specs.Ranges.{IsSize}
@@ -30,6 +30,14 @@ with_declared x p important v = record x { declared = with_declaration x.declare
 -- the same sources, but that transitions give these values
 abbrev pub with_transitioned : StyleSources → List (PropertyId × Value) → StyleSources
 with_transitioned x given = record x { transitioned = given }
+
+-- the same sources, but that animations give these values
+abbrev pub with_animated : StyleSources → AnimatedValues → StyleSources
+with_animated x animated = record x { animated = animated }
+
+-- animations give each property the same, whatever they build on
+abbrev pub GiveAlike : AnimatedValues → AnimatedValues → Type 0
+GiveAlike a b = (p : PropertyId) (parent own root : Fix) (under : Value) → a p parent own root under ≡ b p parent own root under
 
 -- the computed value of each property, by number
 unfoldable pub computed_values : StyleSources → List Value

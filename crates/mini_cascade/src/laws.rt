@@ -8,9 +8,9 @@ ghost use Rattle.value_types.specs.TransitionLists.{IsTransitionValues};
 ghost use Rattle.value_types.specs.declared.declared.Declared.{Declared};
 ghost use Rattle.value_types.specs.declared.property.PropertyId.{PropertyId};
 ghost use Rattle.computed_style.specs.ByProperty.{kept_for};
-ghost use Rattle.computed_style.specs.ComputedStyles.{StyleSources, computed_font_size, computed_style, computed_value, inherited_value};
+ghost use Rattle.computed_style.specs.ComputedStyles.{AnimatedValues, StyleSources, computed_font_size, computed_style, computed_value, inherited_value};
 ghost use Rattle.computed_style.specs.Styles.{AreValid, ComputedStyle, inherited_of, style_with, value_of};
-ghost use Rattle.mini_cascade.specs.Sources.{AreSources, with_declared, with_transitioned};
+ghost use Rattle.mini_cascade.specs.Sources.{AreSources, GiveAlike, with_animated, with_declared, with_transitioned};
 
 /// A computed style has a value of each property, and its lists keep their bounds.
 pub fn computed_styles_are_valid()
@@ -42,4 +42,9 @@ pub fn inherits_by_the_table()
 pub fn transitions_take_precedence()
     ensures { (x : StyleSources) → kept_for PropertyId.FontSize x.transitioned ≡ None
         → computed_style x ≡ style_with (computed_style (with_transitioned x [])) x.transitioned }
+{}
+
+/// Of animations what they give the properties counts, and nothing else: two that give the same give the same style.
+pub fn animations_count_by_their_values()
+    ensures { (x : StyleSources) (animated : AnimatedValues) → GiveAlike x.animated animated → computed_style x ≡ computed_style (with_animated x animated) }
 {}

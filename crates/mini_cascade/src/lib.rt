@@ -5,13 +5,11 @@
 #![tactic(auto)]
 
 mod laws;
-mod lists;
 mod style;
 mod values;
 
 pub use laws::{
-    computed_styles_are_valid, declarations_are_apart, inherits_by_the_table,
-    transitions_take_precedence,
+    animations_count_by_their_values, computed_styles_are_valid, declarations_are_apart,
+    inherits_by_the_table, transitions_take_precedence,
 };
-pub use lists::animation_lists;
 pub use style::compute;

@@ -7,7 +7,6 @@ ghost use Rattle.value_types.specs.TransitionLists.{initial_transitions};
 ghost use Rattle.computed_style.specs.ComputedStyles.{computed_style, style_sources};
 ghost use Rattle.computed_style.specs.Styles.{AreGiven, AreValid, initial_style, initial_values, style_of_values, style_with};
 
-use crate::lists::{animation_lists, transition_lists};
 use crate::values::computed_values;
 use computed_style::{DeclaredSet, Inherited, Sampling, Style};
 use interpolation::same;
@@ -17,8 +16,7 @@ use value_types::{PropertyId, Value, initial_value};
 /// The computed style of an element with these winning declarations, over what animations and transitions give
 /// its properties and what its parent hands down, of which the root has nothing (CSS Cascade 5, section 6
 /// "Cascading", section 7 "Defaulting"). Of two values that transitions give one property the first counts. Takes
-/// memory once where more than two values aren't initial, and else not at all; and for the timing lists where
-/// some are declared.
+/// memory at most once: where more than two values aren't initial, or timing lists are declared.
 pub fn compute<A: Sampling>(
     alloc: Global,
     d: &DeclaredSet,
@@ -30,8 +28,8 @@ pub fn compute<A: Sampling>(
     ensures { IfOk result (λ s. s ≡ computed_style (style_sources d.now (A.animated_value anims.now) transitions.now (option_copied parent.entry))) }
 {
     let values = computed_values(d, anims, transitions, parent);
-    let transitions = transition_lists(alloc, d)?;
-    let animations = animation_lists(alloc, d)?;
+    let transitions = d.transition_lists()?;
+    let animations = d.animation_lists()?;
     if transitions.is_none() && animations.is_none() {
         return plain_style(alloc, values);
     }

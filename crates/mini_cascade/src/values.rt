@@ -1,6 +1,7 @@
 //! Computed values.
 
 ghost use Rattle.std.specs.Prelude.{◌≡◌, [], ◌∷◌, IfSome, option_copied, option_map};
+ghost use Rattle.std.specs.Bool.{OnTrue};
 ghost use Rattle.std.specs.Option.{ForSome};
 ghost use Rattle.value_types.specs.Ranges.{IsSize};
 ghost use Rattle.value_types.specs.Validity.{IsDeclaredFor, IsValid};
@@ -51,6 +52,10 @@ fn value_of_property<A: Sampling>(
     ensures value { result ≡ computed_value (style_sources d.now (A.animated_value anims.now) transitions.now (option_copied parent.entry)) p }
     ensures valid { IsValid p result }
 {
+    // Most properties of most elements are inherited or initial, and that is soon seen.
+    if has_none(transitions) && anims.gives_nothing() && !d.declares(p) {
+        return inherited_value(parent, p);
+    }
     if p == PropertyId::FontSize {
         return font_size;
     }
@@ -178,6 +183,12 @@ fn value_for(given: &[(PropertyId, Value)], p: PropertyId) -> Option<Value>
         .iter()
         .find(|item| item.0.number() == p.number())
         .map(|item| item.1)
+}
+
+fn has_none(given: &[(PropertyId, Value)]) -> bool
+    ensures { OnTrue result (given.now ≡ []) }
+{
+    given.is_empty()
 }
 
 /// The pixels of a length.

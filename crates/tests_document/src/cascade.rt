@@ -37,6 +37,10 @@ impl Sampling for ToInitial {
     ) -> Option<Value> {
         Some(initial_value(p))
     }
+
+    fn gives_nothing(&self) -> bool {
+        false
+    }
 }
 
 /// A length or percent of so many tenths of the unit.

@@ -1,4 +1,5 @@
 pub mod ByProperty
 pub mod Completion
 pub mod Given
+pub mod Quiet
 pub mod Steps

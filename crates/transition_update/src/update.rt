@@ -1,9 +1,11 @@
 //! The update of all transitions of an element.
 
 ghost use Rattle.std.specs.Prelude.{◌≡◌, ◌++◌, ◌⊎◌, IfOk, IfSome, IsNone, OnOk, option_to_list};
+ghost use Rattle.std.specs.Bool.{OnTrue};
 ghost use Rattle.style_data.specs.Kept.{IsCompletedFor, IsKeptFor};
 ghost use Rattle.style_data.specs.TransitionSets.{AreTransitions, ComesLast, kept_with};
 ghost use Rattle.style_data.specs.Transitions.{IsMoment};
+ghost use Rattle.transition_update.specs.Idle.{HasNone, IsIdle};
 ghost use Rattle.transition_update.specs.Updates.{cancelled_by, decision_for, style_change, transitions_after};
 
 use crate::event::StyleChangeEvent;
@@ -64,11 +66,29 @@ fn update_property(
     ensures transitions { OnOk result (updated.new.transitions ≡ (let d = decision_for (style_change before.now after.now event) transitions.now p in kept_with updated.old.transitions p d.running d.completed)) }
     ensures gone { OnOk result (updated.new.gone.items ≡ updated.old.gone.items ++ option_to_list (decision_for (style_change before.now after.now event) transitions.now p).gone) }
 {
+    if is_idle(p, transitions, before, after) {
+        return Ok(());
+    }
     let decision = decision_for(p, transitions, before, after, event);
     updated
         .transitions
         .keep(p, decision.running, decision.completed)?;
     push_some(&mut updated.gone, decision.gone)
+}
+
+/// Whether nothing starts, and nothing is there to change, so that no rule has to be asked.
+fn is_idle(p: PropertyId, transitions: &Transitions, before: &Style, after: &Style) -> bool
+    ensures { OnTrue result (IsIdle before.now after.now transitions.now p) }
+{
+    has_none(p, transitions) && same(before.value(p), after.value(p))
+}
+
+/// Whether no transition of the property runs, and none has completed.
+fn has_none(p: PropertyId, transitions: &Transitions) -> bool
+    ensures { OnTrue result (HasNone transitions.now p) }
+{
+    transitions.is_empty()
+        || (transitions.running_of(p).is_none() && transitions.completed_of(p).is_none())
 }
 
 fn push_some(items: &mut Vec<Gone>, item: Option<Gone>) -> Result<(), AllocError>
@@ -99,14 +119,6 @@ fn decision_for(
     let running = transitions.running_of(p);
     let completed = transitions.completed_of(p);
     let (from, to) = (before.value(p), after.value(p));
-    // Nothing starts, and nothing is there to change: no rule is asked.
-    if running.is_none() && completed.is_none() && same(from, to) {
-        return Decision {
-            running: None,
-            completed: None,
-            gone: None,
-        };
-    }
     decide(
         p,
         running.as_ref(),

@@ -1,5 +1,4 @@
-use Rattle.std.proofs.Common.{◌≡◌, ◌∙◌, ap, Bool}
-use Rattle.computed_style.specs.declared.inherited.Down.{Down}
+use Rattle.std.proofs.Common.{◌∙◌, ap, Bool}
 use Rattle.element_step.specs.Updates.{changed_from, down_with}
 use Rattle.element_step.proofs.downs.hand_down.Goals as goal
 

@@ -24,15 +24,16 @@ returns g c =
     let transitions_is : changes.transitions ≡ transitions_of x =
     c.in_ok-changes.ensures.transitions ∙ ap (λ a. transitions_from x.entry.rendered (change_to a) x.entry.effects.transitions) after_is
     ∙ sym (transitions_rendered x is) in
-    let now_is : c.in_ok-now.now ≡ now_of x =
-    c.in_ok-now.ensures
-    ∙ ap (λ l. current_style x.declared x.new l x.event.time.0 (option_copied c.as_ref-2.result)) (c.running-running.ensures.value ∙ ap (λ ts. ts.running) transitions_is)
-    ∙ ap (current_style x.declared x.new (transitions_of x).running x.event.time.0) (c.as_ref-2.ensures.value ∙ above_now) ∙ sym (now_rendered x is) in
+    let now = c.in_ok-current.current.now in
+    let now_is : now ≡ now_of x =
+    c.in_ok-current.ensures.now
+    ∙ ap (λ l. current_style x.declared x.new l x.event.time.0 (now_parent x.parent)) (c.running-running.ensures.value ∙ ap (λ ts. ts.running) transitions_is)
+    ∙ sym (now_rendered x is) in
     let handed_now_is : c.handed_down-handed_now.result ≡ handed_now x =
-    c.handed_down-handed_now.ensures ∙ ap (λ p. handed_down p c.in_ok-now.now) (c.as_ref-4.ensures.value ∙ above_now)
+    c.handed_down-handed_now.ensures ∙ ap (λ p. handed_down p now) (c.as_ref-3.ensures.value ∙ above_now)
     ∙ ap (handed_down (now_parent x.parent)) now_is in
     let handed_after_is : c.handed_down-handed_after.result ≡ handed_after x =
-    c.handed_down-handed_after.ensures ∙ ap (λ p. handed_down p c.in_ok-after.after) (c.as_ref-3.ensures.value ∙ above_after)
+    c.handed_down-handed_after.ensures ∙ ap (λ p. handed_down p c.in_ok-after.after) (c.as_ref-2.ensures.value ∙ above_after)
     ∙ ap (handed_down (after_parent x.parent)) after_is ∙ handed_after_rendered x is in
     record {
       now = now_is;
@@ -41,10 +42,10 @@ returns g c =
           c.in_ok-changes.ensures.gone ∙ ap (λ a. cancelled_from x.entry.rendered (change_to a) x.entry.effects.transitions) after_is
           ∙ sym (cancelled_rendered x is);
       settled =
-          c.is_settled-settled.ensures
-          ∙ ap (λ l. (length l == 0) && list_all (has_ended x.event.time.0) x.animations && have_same_values c.in_ok-after.after c.in_ok-now.now)
+          c.in_ok-current.ensures.settled
+          ∙ ap (λ l. (length l == 0) && list_all (has_ended x.event.time.0) x.animations && have_same_values c.in_ok-after.after now)
           c.running-running.ensures.value
-          ∙ settled_is x changes.transitions c.in_ok-after.after c.in_ok-now.now transitions_is (after_is ∙ sym (after_rendered x is)) now_is;
+          ∙ settled_is x changes.transitions c.in_ok-after.after now transitions_is (after_is ∙ sym (after_rendered x is)) now_is;
       down =
           c.hand_down-down.ensures
           ∙ down_is x changes.before c.handed_down-handed_after.result c.handed_down-handed_now.result true c.in_ok-changes.ensures.before handed_after_is

@@ -1,8 +1,7 @@
 use Rattle.std.proofs.Common.{◌≡◌, ◌∙◌, ap, refl, sym, subst, []}
 use Rattle.std.specs.Prelude.{IfOk, unwrap_or}
-use Rattle.animation_names.specs.Updates.{PairedLists, paired_of}
+use Rattle.animation_names.specs.Updates.{PairedLists}
 use Rattle.timing_types.specs.TimingLists.{initial_animations}
-use Rattle.element_step.specs.Works.{animations_updated}
 use Rattle.element_step.proofs.Working.{empty_of, nothing_paired, paired_is}
 use Rattle.element_step.proofs.work.update_animations.Goals as goal
 

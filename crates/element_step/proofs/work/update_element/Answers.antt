@@ -1,5 +1,4 @@
-use Rattle.std.proofs.Common.{◌≡◌, ◌∙◌, ap, sym}
-use Rattle.std.specs.Prelude.{option_copied}
+use Rattle.std.proofs.Common.{◌∙◌, ap, sym}
 use Rattle.doc_tree.specs.Element.{is_in}
 use Rattle.pass_core.specs.declared.step.Step.TheVariants.{Updated}
 use Rattle.element_step.specs.Works.{DocumentEvent, handed_by, entry_at, from_parent}

@@ -1,4 +1,4 @@
-use Rattle.std.proofs.Common.{◌≡◌, ◌∙◌, ap, sym, subst}
+use Rattle.std.proofs.Common.{◌≡◌, ◌∙◌, ap, subst}
 use Rattle.std.specs.Prelude.{IfOk, option_copied}
 use Rattle.animation_names.specs.Samples.{samples_of}
 use Rattle.animation_names.specs.Updates.{PairedLists}

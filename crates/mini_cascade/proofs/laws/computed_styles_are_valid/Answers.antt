@@ -1,5 +1,5 @@
 use Rattle.computed_style.specs.ComputedStyles.{computed_style}
-use Rattle.mini_cascade.proofs.ListLemmas.{animation_lists_are, transition_lists_are}
+use Rattle.computed_style.proofs.ListLemmas.{animation_lists_are, transition_lists_are}
 use Rattle.mini_cascade.proofs.Validity.{style_valid}
 use Rattle.mini_cascade.proofs.laws.computed_styles_are_valid.Goals as goal
 

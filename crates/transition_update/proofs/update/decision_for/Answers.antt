@@ -1,10 +1,10 @@
-use Rattle.std.proofs.Common.{◌≡◌, ◌∙◌, ap, sym, refl, inl, inr}
-use Rattle.std.specs.Prelude.{◌⊎◌, false, IsNone, None, Option, Some, is_some, option_copied}
+use Rattle.std.proofs.Common.{◌≡◌, ◌∙◌, ap, inl, inr}
+use Rattle.std.specs.Prelude.{◌⊎◌, IsNone, Option, is_some, option_copied}
 use Rattle.computed_style.specs.Styles.{value_of}
 use Rattle.style_data.proofs.Lookups.{one_of_both}
 use Rattle.style_data.specs.TransitionSets.{completed_of, running_of}
 use Rattle.transition_list.specs.Matching.{match_of}
-use Rattle.transition_start.proofs.Cases.{nothing_there, same_change}
+use Rattle.transition_start.proofs.Cases.{same_change}
 use Rattle.transition_start.specs.Change.{change_at, property_change}
 use Rattle.transition_start.specs.Functions.{decision_of}
 use Rattle.transition_start.specs.declared.change.PropertyChange.{PropertyChange}
@@ -12,26 +12,10 @@ use Rattle.value_types.specs.declared.value.Value.{Value}
 use Rattle.transition_update.proofs.update.decision_for.Goals as goal
 use Rattle.transition_update.specs.Updates.{decision_for}
 
-none_from : {A : Type 0} (o : Option A) → is_some o ≡ false → o ≡ None
-none_from None is = refl
-none_from (Some x) is = absurd (cc)
-
 -- one of two that are none where two others are
 none_alike : {A B C D : Type 0} (a : Option A) (b : Option B) (c : Option C) (d : Option D) → is_some a ≡ is_some c → is_some b ≡ is_some d → IsNone c ⊎ IsNone d → IsNone a ⊎ IsNone b
 none_alike a b c d ac bd (inl none) = inl (ac ∙ none)
 none_alike a b c d ac bd (inr none) = inr (bd ∙ none)
-
-pub returns-then-same-clause-decision : goal.returns-then-same-clause-decision
-unfolding decision_for
-returns-then-same-clause-decision c =
-    let p = c.args.p in
-    let e = property_change p (value_of c.args.before.now p) (value_of c.args.after.now p) c.args.event.time.0 c.args.event.generation c.args.event.position in
-    let m = match_of c.args.after.now.transitions p in
-    let same = c.same.ensures.equal.0 c.if-same.true in
-    sym (same_change e (running_of c.args.transitions.now p) None (completed_of c.args.transitions.now p) None m m
-    (sym c.running_of-running.ensures.value ∙ none_from c.running_of-running.result c.if-is_none.ensures)
-    (sym c.completed_of-completed.ensures.value ∙ none_from c.completed_of-completed.result c.if-is_none-2.ensures) refl
-    ∙ nothing_there e m (sym c.value-from.ensures.value ∙ same ∙ c.value-to.ensures.value))
 
 pub decide-requires-clause-apart : goal.decide-requires-clause-apart
 decide-requires-clause-apart c =

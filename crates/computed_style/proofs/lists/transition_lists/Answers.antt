@@ -1,5 +1,5 @@
-use Rattle.mini_cascade.proofs.ListLemmas.{transition_lists_are}
-use Rattle.mini_cascade.proofs.lists.transition_lists.Goals as goal
+use Rattle.computed_style.proofs.ListLemmas.{transition_lists_are}
+use Rattle.computed_style.proofs.lists.transition_lists.Goals as goal
 
 pub new-lists-requires-clause-items : goal.new-lists-requires-clause-items
 new-lists-requires-clause-items c =

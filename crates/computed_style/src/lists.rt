@@ -1,4 +1,4 @@
-//! The lists that time transitions and animations.
+//! The lists that time transitions and animations, of winning declarations.
 
 ghost use Rattle.std.specs.Prelude.{◌≡◌, IfOk, IfSome, option_copied, unwrap_or};
 ghost use Rattle.std.specs.Bool.{OnFalse, OnTrue};
@@ -9,7 +9,7 @@ ghost use Rattle.computed_style.specs.ComputedStyles.{animation_lists_of, list_w
 ghost use Rattle.computed_style.specs.DeclaredItems.{counts_or, directions_or, easings_or, fills_or, names_or, properties_or, states_or, times_or};
 ghost use Rattle.computed_style.specs.Winners.{AreDeclarations};
 
-use computed_style::DeclaredSet;
+use crate::declared_set::Winning;
 use fix_num::{Fix, Micros};
 use std::alloc::{AllocError, Global};
 use timing_types::{
@@ -20,7 +20,7 @@ use value_types::{ListName, ListValue, PropertyItem, Shared, TransitionLists};
 /// The lists that time transitions; `None`, which takes no memory, where none of them is declared.
 pub(crate) fn transition_lists(
     alloc: Global,
-    d: &DeclaredSet,
+    d: &Winning,
 ) -> Result<Option<Shared<TransitionLists>>, AllocError>
     ensures { IfOk result (λ lists. unwrap_or lists initial_transitions ≡ transition_lists_of d.now) }
 {
@@ -36,9 +36,9 @@ pub(crate) fn transition_lists(
 }
 
 /// The lists that time animations; `None`, which takes no memory, where none of them is declared.
-pub fn animation_lists(
+pub(crate) fn animation_lists(
     alloc: Global,
-    d: &DeclaredSet,
+    d: &Winning,
 ) -> Result<Option<Shared<AnimationLists>>, AllocError>
     ensures { IfOk result (λ lists. unwrap_or lists initial_animations ≡ animation_lists_of d.now) }
 {
@@ -78,7 +78,7 @@ struct Playing {
     states: Items<PlayState>,
 }
 
-fn timing_of(alloc: Global, d: &DeclaredSet) -> Result<Timing, AllocError>
+fn timing_of(alloc: Global, d: &Winning) -> Result<Timing, AllocError>
     ensures durations { IfOk result (λ t. t.durations ≡ (animation_lists_of d.now).durations) }
     ensures delays { IfOk result (λ t. t.delays ≡ (animation_lists_of d.now).delays) }
     ensures easings { IfOk result (λ t. t.easings ≡ (animation_lists_of d.now).easings) }
@@ -92,7 +92,7 @@ fn timing_of(alloc: Global, d: &DeclaredSet) -> Result<Timing, AllocError>
     })
 }
 
-fn playing_of(alloc: Global, d: &DeclaredSet) -> Result<Playing, AllocError>
+fn playing_of(alloc: Global, d: &Winning) -> Result<Playing, AllocError>
     ensures directions { IfOk result (λ p. p.directions ≡ (animation_lists_of d.now).directions) }
     ensures fills { IfOk result (λ p. p.fills ≡ (animation_lists_of d.now).fills) }
     ensures states { IfOk result (λ p. p.states ≡ (animation_lists_of d.now).states) }
@@ -107,7 +107,7 @@ fn playing_of(alloc: Global, d: &DeclaredSet) -> Result<Playing, AllocError>
 // ---- winners
 
 /// The winner of a timing list: important declarations before normal ones.
-fn list_winner(d: &DeclaredSet, name: ListName) -> Option<&ListValue>
+fn list_winner(d: &Winning, name: ListName) -> Option<&ListValue>
     ensures value { option_copied result ≡ list_winner d.now name }
     ensures all { AreDeclarations d.now }
 {
@@ -117,7 +117,7 @@ fn list_winner(d: &DeclaredSet, name: ListName) -> Option<&ListValue>
     }
 }
 
-fn declares_no_transition(d: &DeclaredSet) -> bool
+fn declares_no_transition(d: &Winning) -> bool
     ensures { OnTrue result (transition_lists_of d.now ≡ initial_transitions) }
 {
     !is_declared(d, ListName::TransitionProperty)
@@ -126,7 +126,7 @@ fn declares_no_transition(d: &DeclaredSet) -> bool
         && !is_declared(d, ListName::TransitionEasing)
 }
 
-fn declares_no_animation(d: &DeclaredSet) -> bool
+fn declares_no_animation(d: &Winning) -> bool
     ensures { OnTrue result (animation_lists_of d.now ≡ initial_animations) }
 {
     !is_declared(d, ListName::AnimationName)
@@ -139,7 +139,7 @@ fn declares_no_animation(d: &DeclaredSet) -> bool
         && !is_declared(d, ListName::AnimationPlayState)
 }
 
-fn is_declared(d: &DeclaredSet, name: ListName) -> bool
+fn is_declared(d: &Winning, name: ListName) -> bool
     ensures { OnFalse result (list_winner d.now name ≡ None) }
 {
     list_winner(d, name).is_some()

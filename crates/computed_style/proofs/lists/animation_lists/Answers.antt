@@ -1,5 +1,5 @@
-use Rattle.mini_cascade.proofs.ListLemmas.{animation_lists_are}
-use Rattle.mini_cascade.proofs.lists.animation_lists.Goals as goal
+use Rattle.computed_style.proofs.ListLemmas.{animation_lists_are}
+use Rattle.computed_style.proofs.lists.animation_lists.Goals as goal
 
 pub new-lists-requires-clause-names : goal.new-lists-requires-clause-names
 new-lists-requires-clause-names c =
