@@ -128,7 +128,7 @@ event_entries_count s w entries tree order =
 
 -- ---- a frame
 
-ticked_numbers : (t : ℤ) (entries : List (ℕ × EntryParts)) → map (λ (e : ℕ × EntryParts). e.0) (map (ticked_entry t) entries) ≡ map (λ (e : ℕ × EntryParts). e.0) entries
+pub ticked_numbers : (t : ℤ) (entries : List (ℕ × EntryParts)) → map (λ (e : ℕ × EntryParts). e.0) (map (ticked_entry t) entries) ≡ map (λ (e : ℕ × EntryParts). e.0) entries
 ticked_numbers t [] = refl
 ticked_numbers t (e ∷ entries) = ap (λ ns. e.0 ∷ ns) (ticked_numbers t entries)
 

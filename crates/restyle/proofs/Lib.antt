@@ -1,8 +1,10 @@
+pub mod AncestorChains
 pub mod AnimationOrigins
 pub mod DistinctTicks
 pub mod EditOrigins
 pub mod EffectCounts
 pub mod EventOrigins
+pub mod FirstEvents
 pub mod FrameOrigins
 pub mod Frames
 pub mod Lookups
@@ -12,7 +14,12 @@ pub mod OriginCounts
 pub mod Outcomes
 pub mod ProperPlans
 pub mod Questions
+pub mod QuietEvents
+pub mod QuietFrames
+pub mod QuietUpdates
+pub mod QuietWorlds
 pub mod Reordering
+pub mod StillEntries
 pub mod StylesAlong
 pub mod TickOrigins
 pub mod TransitionOrigins

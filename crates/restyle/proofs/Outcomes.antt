@@ -3,10 +3,9 @@ use Rattle.std.proofs.Common.{◌≡◌, ℕ, refl, ap, sym, ◌∙◌, eqb, inl
 use Rattle.std.specs.Prelude.{is_some, option_map, slice_get, unwrap_or, if◌then◌else◌}
 use Rattle.std.specs.List.{find, list_all, list_any}
 use Rattle.std.specs.Option.{option_and_then, option_map_or}
-use Rattle.std.proofs.lemmas.Bool.{cases_Bool, eq-eqb, eqb-true, or_parts, or_left, or_right, and_from}
-use Rattle.std.proofs.lemmas.List.Folds.{list_any-append}
+use Rattle.std.proofs.lemmas.Bool.{cases_Bool, eq-eqb, eqb-true, or_parts, or_left, and_from}
 use Rattle.computed_style.specs.declared.inherited.Down.{Down}
-use Rattle.doc_tree.specs.Element.{Document, Element, element_of, inclusive_ancestors, is_in, numbers_of, parent_of, position_of}
+use Rattle.doc_tree.specs.Element.{Document, Element, inclusive_ancestors, is_in, numbers_of, position_of}
 use Rattle.doc_tree.specs.Shape.{IsTree}
 use Rattle.element_step.specs.Works.{DocumentEvent, handed_by, element_meaning, entry_at, from_parent, outcome_in}
 use Rattle.pass_core.specs.Passes.{IsPassOutcome, IsResult, are_distinct, at_top, below, have_entries, value_for}
@@ -18,6 +17,7 @@ use Rattle.pass_core.specs.declared.step.Step.TheVariants.{Kept, Updated}
 use Rattle.style_data.specs.Entries.{EntryParts, fresh_entry}
 use Rattle.restyle.specs.StyleChanges.{ancestors_of, entry_after_event, entry_for}
 use Rattle.restyle.specs.TreePlans.{element_place, places_of}
+use Rattle.restyle.proofs.AncestorChains.{chain_begins, found, parent_found, there}
 use Rattle.restyle.proofs.ProperPlans.{TreeLaws, absent, next_split, parent_before, place_there, split_at}
 use Rattle.restyle.proofs.StylesAlong.{downs_along, entry_along}
 
@@ -100,7 +100,7 @@ elements_kept f [] = refl
 elements_kept f (x ∷ xs) = ap (λ ns. x.0 ∷ ns) (elements_kept f xs)
 
 -- an element has a value where its number is one of the list's
-value_there : {X : Type 0} (xs : List (ℕ × X)) (es : List Element) → map (λ x. x.0) xs ≡ numbers_of es → (n : ℕ) → is_some (value_for xs n) ≡ is_in n es
+pub value_there : {X : Type 0} (xs : List (ℕ × X)) (es : List Element) → map (λ x. x.0) xs ≡ numbers_of es → (n : ℕ) → is_some (value_for xs n) ≡ is_in n es
 value_there [] [] same n = refl
 value_there [] (e ∷ es) same n = absurd (cc)
 value_there (x ∷ xs) [] same n = absurd (cc)
@@ -113,12 +113,6 @@ value_there (x ∷ xs) (e ∷ es) same n =
     at true here first rest = ap is_some (value_here x xs n true here) ∙ sym (or_left _ _ (ap (λ m. eqb m n) (sym first) ∙ here))
     at false other first rest =
         ap is_some (value_here x xs n false other) ∙ rest ∙ sym (ap (λ b. b || is_in n es) (ap (λ m. eqb m n) (sym first) ∙ other))
-
-find_split : {X : Type 0} (p : X → Bool) (front : List X) (item : X) (back : List X) → list_any p front ≡ false → p item ≡ true → find p (front ++ item ∷ back) ≡ Some item
-find_split p [] item back none passes = rw passes refl
-find_split p (x ∷ front) item back none passes =
-    let parts = or_parts (p x) (list_any p front) none in
-    rw parts.0 (find_split p front item back parts.1 passes)
 
 find_none : {X : Type 0} (p : X → Bool) (xs : List X) → list_any p xs ≡ false → find p xs ≡ None
 find_none p [] none = refl
@@ -148,25 +142,16 @@ module _ (w : DocumentEvent) (tree : IsTree w.document) (laws : TreeLaws) (entri
   updated n = Updated (entry_at w n (entry_for entries n) (handed_to n)) (handed_by w n (entry_for entries n) (handed_to n))
 
   module _ (before after : List Element) (e : Element) (is : d.elements ≡ before ++ e ∷ after) where
-    found : element_of e.number d.elements ≡ Some e
-    found = ap (find (λ (x : Element). eqb x.number e.number)) is ∙ find_split (λ (x : Element). eqb x.number e.number) before e after (absent d tree laws before after e is).0 (eq-eqb e.number e.number refl)
-
-    parent_found : parent_of e.number d.elements ≡ e.parent
-    parent_found = ap (λ o. option_map_or (λ (x : Element). x.parent) o None) found
-
-    there : is_in e.number d.elements ≡ true
-    there = ap (is_in e.number) is ∙ list_any-append (λ (x : Element). eqb x.number e.number) before (e ∷ after) ∙ or_right _ _ (or_left _ _ (eq-eqb e.number e.number refl))
-
     planned : planned_place (places_of d) e.number ≡ Some (element_place d e)
-    planned = find-map (λ (p : Place). eqb p.element e.number) (element_place d) d.elements ∙ ap (option_map (element_place d)) found
+    planned = find-map (λ (p : Place). eqb p.element e.number) (element_place d) d.elements ∙ ap (option_map (element_place d)) (found d tree laws before after e is)
 
     -- the outcome over what the parent's place hands down
     outcome_over : (x : EntryParts) (down : Down) (parent : Option Down) → value_for entries e.number ≡ Some x → option_map (λ _. down) e.parent ≡ parent → parent ≡ handed_to e.number
         → outcome_in w e.number x down ≡ updated e.number
     unfolding outcome_in
     outcome_over x down parent value from is_handed =
-        ap (λ b. if b then Updated (entry_at w e.number x (from_parent w e.number down)) (handed_by w e.number x (from_parent w e.number down)) else Kept down) there
-        ∙ ap (λ o. Updated (entry_at w e.number x o) (handed_by w e.number x o)) (ap (option_map (λ _. down)) parent_found ∙ from ∙ is_handed)
+        ap (λ b. if b then Updated (entry_at w e.number x (from_parent w e.number down)) (handed_by w e.number x (from_parent w e.number down)) else Kept down) (there d tree laws before after e is)
+        ∙ ap (λ o. Updated (entry_at w e.number x o) (handed_by w e.number x o)) (ap (option_map (λ _. down)) (parent_found d tree laws before after e is) ∙ from ∙ is_handed)
         ∙ ap (λ v. Updated (entry_at w e.number v (handed_to e.number)) (handed_by w e.number v (handed_to e.number))) (sym (ap (λ o. unwrap_or o fresh_entry) value))
 
   -- ---- and of all
@@ -190,7 +175,7 @@ module _ (w : DocumentEvent) (tree : IsTree w.document) (laws : TreeLaws) (entri
       at : (o : Option ℕ) → e.parent ≡ o → (element_place d e).parent ≡ None → value_for entries e.number ≡ Some x → outcome_in w e.number x (element_meaning w).top ≡ updated e.number
       at None root none value_e =
           outcome_over before after e is x (element_meaning w).top None value_e (ap (option_map (λ _. (element_meaning w).top)) root)
-          (sym (ap (λ o. downs_along w entries (option_map_or (inclusive_ancestors d.elements) o [])) (parent_found before after e is ∙ root) ∙ nothing_handed))
+          (sym (ap (λ o. downs_along w entries (option_map_or (inclusive_ancestors d.elements) o [])) (parent_found d tree laws before after e is ∙ root) ∙ nothing_handed))
       at (Some p) parent none value_e =
           absurd (let q = parent_before d tree laws before after e p is parent in
           let e : Some (length q.front) ≡ None = sym (ap (option_and_then (λ p. position_of p d)) parent ∙ q.position) ∙ none in cc)
@@ -212,9 +197,8 @@ module _ (w : DocumentEvent) (tree : IsTree w.document) (laws : TreeLaws) (entri
           let q_is : q ≡ element_place d a.item = cc in
           let s_is : s ≡ updated a.item.number = is_updated a.front a.rest a.item a.is q_is in
           let chain : ancestors_of d e.number ≡ a.item ∷ ancestors_of d a.item.number =
-          ap (λ o. option_map_or (inclusive_ancestors d.elements) o []) (parent_found before after e is ∙ parent) ∙ ap (inclusive_ancestors d.elements) (sym a.number)
-          ∙ laws.ancestors d a.front a.rest a.item tree a.is
-          ∙ ap (λ o. a.item ∷ option_map_or (inclusive_ancestors d.elements) o []) (sym (parent_found a.front a.rest a.item a.is)) in
+          ap (λ o. option_map_or (inclusive_ancestors d.elements) o []) (parent_found d tree laws before after e is ∙ parent) ∙ ap (inclusive_ancestors d.elements) (sym a.number)
+          ∙ chain_begins d tree laws a.front a.rest a.item a.is in
           outcome_over before after e is x (down_of s) (Some (down_of s)) value_e (ap (option_map (λ _. down_of s)) parent)
           (ap (λ t. Some (down_of t)) s_is ∙ sym (ap (downs_along w entries) chain ∙ handed_on a.item (ancestors_of d a.item.number)))
 
@@ -267,7 +251,7 @@ module _ (w : DocumentEvent) (tree : IsTree w.document) (laws : TreeLaws) (entri
       → list_all (λ (p : Place). is_some (value_for entries p.element)) (map (element_place d) rest) ≡ true
   have_from numbers before [] is = refl
   have_from numbers before (e ∷ rest) is =
-      and_from _ _ (value_there entries d.elements numbers e.number ∙ there before rest e is) (have_from numbers (before ++ e ∷ []) rest (next_split d tree laws before rest e is))
+      and_from _ _ (value_there entries d.elements numbers e.number ∙ there d tree laws before rest e is) (have_from numbers (before ++ e ∷ []) rest (next_split d tree laws before rest e is))
 
   pub entries_had : map (λ x. x.0) entries ≡ numbers_of d.elements → have_entries (places_of d) entries ≡ true
   entries_had numbers = have_from numbers [] d.elements refl

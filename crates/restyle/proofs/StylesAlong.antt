@@ -36,15 +36,15 @@ handed : (above : Option Ancestors) (s : ComputedStyle) → handed_down (option_
 handed None s = refl
 handed (Some a) s = refl
 
-before_inherited : (above : Option StylesAbove) → before_parent (option_map inherited_above above) ≡ option_map inherited_from (before_above above)
+pub before_inherited : (above : Option StylesAbove) → before_parent (option_map inherited_above above) ≡ option_map inherited_from (before_above above)
 before_inherited None = refl
 before_inherited (Some a) = refl
 
-after_inherited : (above : Option StylesAbove) → after_parent (option_map inherited_above above) ≡ option_map inherited_from (after_above above)
+pub after_inherited : (above : Option StylesAbove) → after_parent (option_map inherited_above above) ≡ option_map inherited_from (after_above above)
 after_inherited None = refl
 after_inherited (Some a) = refl
 
-now_inherited : (above : Option StylesAbove) → now_parent (option_map inherited_above above) ≡ option_map inherited_from (now_above above)
+pub now_inherited : (above : Option StylesAbove) → now_parent (option_map inherited_above above) ≡ option_map inherited_from (now_above above)
 now_inherited None = refl
 now_inherited (Some a) = refl
 

@@ -20,7 +20,9 @@ mod world_laws;
 pub use alone::{Restyled, restyle_alone};
 pub use edit_fault::EditFault;
 pub use frame::{Frame, FrameContent};
-pub use laws::siblings_never_show;
+pub use laws::{new_elements_start_none, nothing_changes, siblings_never_show};
 pub use plan::plan_of;
 pub use world::{FrameOut, World};
-pub use world_laws::{frames_have_an_order, worlds_stay_distinct};
+pub use world_laws::{
+    added_elements_start_none, frames_have_an_order, worlds_stay_at_rest, worlds_stay_distinct,
+};

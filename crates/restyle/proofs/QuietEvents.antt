@@ -1,0 +1,200 @@
+-- What an event leaves of elements at rest, where nothing has changed since the event before.
+use Rattle.std.proofs.Common.{◌≡◌, ℕ, refl, ap, sym, ◌∙◌, subst, Bool, true, ◌&&◌, List, [], ◌∷◌, Option, Some, None}
+use Rattle.std.specs.Prelude.{ℤ, All, IsSome, option_map, if◌then◌else◌}
+use Rattle.std.proofs.lemmas.Bool.{and_parts}
+use Rattle.std.proofs.lemmas.List.Elements.{All-head, All-tail}
+use Rattle.animation_names.specs.Updates.{AreAnimationsOf}
+use Rattle.change_styles.specs.Inheritance.{inherited_from, with_child}
+use Rattle.computed_style.specs.Winners.{Declarations}
+use Rattle.computed_style.specs.declared.inherited.Down.{Down}
+use Rattle.doc_tree.specs.Element.{Element, is_in}
+use Rattle.element_step.specs.Rendering.{is_displayed, is_rendered}
+use Rattle.element_step.specs.Updates.{ElementUpdate, after_of, now_of, now_parent, rendered_after}
+use Rattle.element_step.specs.Works.{DocumentEvent, animation_lists_after, element_declarations, entry_at, event_at, update_at}
+use Rattle.fix_num.specs.declared.units.Fix.{Fix}
+use Rattle.fix_num.specs.declared.units.Micros.{Micros}
+use Rattle.style_data.specs.Entries.{EffectLists, EntryParts}
+use Rattle.restyle.specs.Rest.{IsStill}
+use Rattle.restyle.specs.StyleChanges.{StylesAbove, after_above, ancestors_of, before_above, before_of, entry_after_event, entry_for, inherited_above, now_above, styles_along, styles_below}
+use Rattle.restyle.proofs.AncestorChains.{IsChain}
+use Rattle.restyle.proofs.QuietUpdates.{InheritsOne, StaysSame, StillLaws, quiet_event, same_after, same_before, same_entry, same_now, same_update, stays, still_style, still_update, still_values}
+use Rattle.restyle.proofs.StylesAlong.{after_inherited, before_inherited, now_inherited}
+
+-- ---- what elements stand under
+
+-- the current styles above are those of the event before, and where the parent is rendered the before-change and the after-change styles are too
+pub record IsQuiet (a b : StylesAbove) : Type 0 where
+  pub now : b.now ≡ a.now
+  pub rendered : b.rendered ≡ a.rendered
+  pub before : a.rendered ≡ true → b.before ≡ Some a.now
+  pub after : a.rendered ≡ true → b.after ≡ a.now
+
+abbrev pub AreQuiet : Option StylesAbove → Option StylesAbove → Type 0
+AreQuiet None None = Unit {0}
+AreQuiet None (Some b) = ⊥
+AreQuiet (Some a) None = ⊥
+AreQuiet (Some a) (Some b) = IsQuiet a b
+
+shown_alike : (d : Declarations) (a b : Option StylesAbove) → AreQuiet a b → is_rendered d (option_map inherited_above b) ≡ is_rendered d (option_map inherited_above a)
+shown_alike d None None quiet = refl
+shown_alike d None (Some b) quiet = absurd quiet
+shown_alike d (Some a) None quiet = absurd quiet
+shown_alike d (Some a) (Some b) quiet = ap (λ r. r && is_displayed d) quiet.rendered
+
+now_alike : (a b : Option StylesAbove) → AreQuiet a b → now_above b ≡ now_above a
+now_alike None None quiet = refl
+now_alike None (Some b) quiet = absurd quiet
+now_alike (Some a) None quiet = absurd quiet
+now_alike (Some a) (Some b) quiet = ap Some quiet.now
+
+-- the parent of a rendered element is rendered
+parent_shown : (d : Declarations) (a b : StylesAbove) → IsQuiet a b → is_rendered d (Some (inherited_above b)) ≡ true → a.rendered ≡ true
+parent_shown d a b quiet on = sym quiet.rendered ∙ (and_parts b.rendered (is_displayed d) on).0
+
+before_alike : (d : Declarations) (a b : Option StylesAbove) → AreQuiet a b → is_rendered d (option_map inherited_above b) ≡ true → before_above b ≡ now_above a
+before_alike d None None quiet on = refl
+before_alike d None (Some b) quiet on = absurd quiet
+before_alike d (Some a) None quiet on = absurd quiet
+before_alike d (Some a) (Some b) quiet on = quiet.before (parent_shown d a b quiet on)
+
+after_alike : (d : Declarations) (a b : Option StylesAbove) → AreQuiet a b → is_rendered d (option_map inherited_above b) ≡ true → after_above b ≡ now_above a
+after_alike d None None quiet on = refl
+after_alike d None (Some b) quiet on = absurd quiet
+after_alike d (Some a) None quiet on = absurd quiet
+after_alike d (Some a) (Some b) quiet on = ap Some (quiet.after (parent_shown d a b quiet on))
+
+inherits_one : (d : Declarations) (r : Bool) (a b : Option StylesAbove) → AreQuiet a b → is_rendered d (option_map inherited_above b) ≡ r
+    → InheritsOne r (option_map inherited_above b) (now_parent (option_map inherited_above a))
+inherits_one d r a b quiet is = record {
+  now = now_inherited b ∙ ap (option_map inherited_from) (now_alike a b quiet) ∙ sym (now_inherited a);
+  before = λ on. before_inherited b ∙ ap (option_map inherited_from) (before_alike d a b quiet (is ∙ on)) ∙ sym (now_inherited a);
+  after = λ on. after_inherited b ∙ ap (option_map inherited_from) (after_alike d a b quiet (is ∙ on)) ∙ sym (now_inherited a);
+}
+
+-- ---- one element
+
+-- what the event of w leaves of element n, which stands under these: the entry is still, and its animations give at time t what they gave
+pub record IsLeftStill (w : DocumentEvent) (n : ℕ) (opening : EntryParts) (above : Option StylesAbove) (t : ℤ) (e : EntryParts) : Type 0 where
+  pub still : IsStill e
+  pub styled : e.styled ≡ true
+  pub declared : e.declared ≡ element_declarations w n
+  pub rendered : e.rendered ≡ is_rendered (element_declarations w n) (option_map inherited_above above)
+  pub now : e.now ≡ now_of (update_at w n opening (option_map inherited_above above))
+  pub style : e.now
+      ≡ still_style e.rendered e.declared (still_values w t e) (now_parent (option_map inherited_above above))
+  pub animations : AreAnimationsOf (animation_lists_after e.rendered e.declared) w.sheets e.effects.animations
+
+shown_after : (w : DocumentEvent) (n : ℕ) (entry : EntryParts) (parent : Option Down) → rendered_after (update_at w n entry parent) ≡ is_rendered (element_declarations w n) parent
+unfolding update_at
+shown_after w n entry parent = refl
+
+module _ (laws : StillLaws) (w : DocumentEvent) (t : Micros) (generation : ℕ) (root : Option Fix) (n : ℕ) (opening e : EntryParts) (a b : Option StylesAbove)
+    (quiet : AreQuiet a b) (left : IsLeftStill w n opening a t.0 e) where
+  abbrev parent : Option Down
+  parent = option_map inherited_above b
+
+  abbrev was : ElementUpdate
+  was = update_at w n opening (option_map inherited_above a)
+
+  abbrev x : ElementUpdate
+  x = still_update w t generation root n e parent
+
+  shown : is_rendered e.declared parent ≡ e.rendered
+  shown = ap (λ d. is_rendered d parent) left.declared ∙ shown_alike (element_declarations w n) a b quiet ∙ sym left.rendered
+
+  one : InheritsOne e.rendered parent (now_parent (option_map inherited_above a))
+  one = inherits_one e.declared e.rendered a b quiet shown
+
+  -- the three styles are those of now, as the event before left it
+  now_is : now_of x ≡ now_of was
+  now_is = same_now laws e parent (still_values w t.0 e) _ root (event_at (quiet_event w t generation root) n) left.still.transitions shown one left.style ∙ left.now
+
+  before_is : e.rendered ≡ true → before_of x ≡ now_of was
+  before_is on =
+      same_before laws e parent (still_values w t.0 e) _ root (event_at (quiet_event w t generation root) n) left.still.transitions shown one left.style on ∙ left.now
+
+  after_is : e.rendered ≡ true → after_of x ≡ now_of was
+  after_is on =
+      same_after laws e parent (still_values w t.0 e) _ root (event_at (quiet_event w t generation root) n) left.still.transitions shown one left.style on ∙ left.now
+
+  was_on : rendered_after was ≡ true → e.rendered ≡ true
+  was_on on = left.rendered ∙ sym (shown_after w n opening (option_map inherited_above a)) ∙ on
+
+  shown_now : e.rendered ≡ true → is_rendered e.declared parent ≡ true
+  shown_now on = shown ∙ on
+
+  handed_before : rendered_after was ≡ true
+      → (if e.rendered then Some (with_child (before_above b) (before_of x)) else None) ≡ Some (with_child (now_above a) (now_of was))
+  handed_before on =
+      ap (λ r. if r then Some (with_child (before_above b) (before_of x)) else None) (was_on on)
+      ∙ ap (λ above. Some (with_child above (before_of x))) (before_alike e.declared a b quiet (shown_now (was_on on)))
+      ∙ ap (λ s. Some (with_child (now_above a) s)) (before_is (was_on on))
+
+  handed_after : rendered_after was ≡ true
+      → with_child (if rendered_after x then after_above b else now_above b) (after_of x) ≡ with_child (now_above a) (now_of was)
+  handed_after on =
+      ap (λ r. with_child (if r then after_above b else now_above b) (after_of x)) (shown_now (was_on on))
+      ∙ ap (λ above. with_child above (after_of x)) (after_alike e.declared a b quiet (shown_now (was_on on)))
+      ∙ ap (with_child (now_above a)) (after_is (was_on on))
+
+  below_quiet : IsQuiet (styles_below a was) (styles_below b x)
+  unfolding styles_below
+  below_quiet = record {
+    now = ap (λ above. with_child above (now_of x)) (now_alike a b quiet) ∙ ap (with_child (now_above a)) now_is;
+    rendered = shown ∙ left.rendered ∙ sym (shown_after w n opening (option_map inherited_above a));
+    before = handed_before;
+    after = handed_after;
+  }
+
+  pub quiet_below : IsQuiet (styles_below a was) (styles_below b (update_at (quiet_event w t generation root) n e parent))
+  quiet_below =
+      subst (λ y. IsQuiet (styles_below a was) (styles_below b y)) (sym (same_update laws w t generation root n e parent left.declared shown left.animations)) below_quiet
+
+  pub stays_under : StaysSame e (entry_at (quiet_event w t generation root) n e parent)
+  stays_under =
+      subst (StaysSame e) (sym (same_entry laws w t generation root n e parent left.declared shown left.animations))
+      (stays laws e parent (still_values w t.0 e) _ root (event_at (quiet_event w t generation root) n) left.still.transitions shown one left.style left.styled)
+
+-- ---- an element and its ancestors
+
+still_as : (a b : EntryParts) → b.effects ≡ a.effects → IsStill a → IsStill b
+still_as a b same still = record {
+  transitions = ap (λ (f : EffectLists). f.transitions) same ∙ still.transitions;
+  animations = subst (λ (f : EffectLists). All (λ x. IsSome x.hold) f.animations) (sym same) still.animations;
+}
+
+-- those that are at rest are left still
+module _ (laws : StillLaws) (w : DocumentEvent) (t : Micros) (generation : ℕ) (root : Option Fix) (opening entries : List (ℕ × EntryParts)) (IsAtRest : ℕ → Type 0)
+    (left : (n : ℕ) → is_in n w.document.elements ≡ true → IsAtRest n
+    → IsLeftStill w n (entry_for opening n) (styles_along w opening (ancestors_of w.document n)) t.0 (entry_for entries n)) where
+  abbrev next : DocumentEvent
+  next = quiet_event w t generation root
+
+  abbrev AllAtRest : List Element → Type 0
+  AllAtRest chain = All (λ a. IsAtRest a.number) chain
+
+  left_first : (a : Element) (above : List Element) → IsChain w.document (a ∷ above) → AllAtRest (a ∷ above)
+      → IsLeftStill w a.number (entry_for opening a.number) (styles_along w opening above) t.0 (entry_for entries a.number)
+  left_first a above chain rest =
+      subst (λ c. IsLeftStill w a.number (entry_for opening a.number) (styles_along w opening c) t.0 (entry_for entries a.number)) chain.1
+      (left a.number chain.0 (All-head (λ (x : Element). IsAtRest x.number) a above rest))
+
+  quiet_along : (chain : List Element) → IsChain w.document chain → AllAtRest chain → AreQuiet (styles_along w opening chain) (styles_along next entries chain)
+  quiet_along [] chain rest = tt
+  quiet_along (a ∷ above) chain rest =
+      quiet_below laws w t generation root a.number (entry_for opening a.number) (entry_for entries a.number) (styles_along w opening above) (styles_along next entries above)
+      (quiet_along above chain.2 (All-tail (λ (x : Element). IsAtRest x.number) a above rest)) (left_first a above chain rest)
+
+  -- the entry of the first of a chain stays
+  pub stays_first : (a : Element) (above : List Element) → IsChain w.document (a ∷ above) → AllAtRest (a ∷ above)
+      → StaysSame (entry_for entries a.number) (entry_after_event next entries a.number)
+  stays_first a above chain rest =
+      subst (λ c. StaysSame (entry_for entries a.number) (entry_at next a.number (entry_for entries a.number) (option_map inherited_above (styles_along next entries c))))
+      (sym chain.1)
+      (stays_under laws w t generation root a.number (entry_for opening a.number) (entry_for entries a.number) (styles_along w opening above) (styles_along next entries above)
+      (quiet_along above chain.2 (All-tail (λ (x : Element). IsAtRest x.number) a above rest)) (left_first a above chain rest))
+
+  -- which is still again
+  pub still_first : (a : Element) (above : List Element) → IsChain w.document (a ∷ above) → AllAtRest (a ∷ above) → IsStill (entry_after_event next entries a.number)
+  still_first a above chain rest =
+      still_as (entry_for entries a.number) (entry_after_event next entries a.number) (stays_first a above chain rest).effects (left_first a above chain rest).still
