@@ -7,4 +7,6 @@ mod decimals;
 #[cfg(test)]
 mod lines;
 #[cfg(test)]
+mod scripts;
+#[cfg(test)]
 mod tokens;

@@ -2,6 +2,7 @@ pub mod ByParts
 pub mod CommandBounds
 pub mod Endings
 pub mod Frames
+pub mod Generated
 pub mod Kept
 pub mod ListLines
 pub mod Listings

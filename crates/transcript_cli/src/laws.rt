@@ -4,6 +4,7 @@ ghost use Rattle.computed_style.specs.Styles.{value_of};
 ghost use Rattle.event_order.specs.Order.{IsInOrderOf};
 ghost use Rattle.restyle.specs.StyleChanges.{entry_for};
 ghost use Rattle.restyle.specs.Worlds.{WorldParts, events_of_frame, new_world, world_after_frame};
+ghost use Rattle.script_gen.specs.Lines.{script_bytes};
 ghost use Rattle.script_text.specs.declared.command.Command.{Command};
 ghost use Rattle.script_text.specs.declared.refusal.Refusal.{Refusal};
 ghost use Rattle.style_data.specs.declared.event.Event.{Event};
@@ -14,7 +15,7 @@ ghost use Rattle.value_types.specs.declared.property.PropertyId.{PropertyId};
 ghost use Rattle.transcript_cli.specs.Laws.{HasNoFrame};
 ghost use Rattle.transcript_cli.specs.Listing.{listing_of};
 ghost use Rattle.transcript_cli.specs.Order.{in_order};
-ghost use Rattle.transcript_cli.specs.Transcript.{answer_of, is_edit, reading_of, refuses_from, transcript_from, transcript_of, world_from};
+ghost use Rattle.transcript_cli.specs.Transcript.{answer_of, has_refusal, is_edit, reading_of, refuses_from, transcript_from, transcript_of, world_from};
 
 use script_text::Command;
 
@@ -89,4 +90,9 @@ pub fn answers_are_of_the_last_frame()
     ensures list { (w : WorldParts) (n m k : ℕ) (lines : List (Option (List ℕ))) (line : Option (List ℕ)) → HasNoFrame lines
         → reading_of line ≡ Ok (Command.List k) → (answer_of (world_from w n lines) m line).refused ≡ false
         → (answer_of (world_from w n lines) m line).piece ≡ listing_of k (entry_for w.entries k) }
+{}
+
+/// No line of a generated script is refused.
+pub fn generated_scripts_are_never_refused()
+    ensures { (seed : ℕ) → has_refusal (script_bytes seed) ≡ false }
 {}
