@@ -1,6 +1,6 @@
 //! Worlds.
 
-ghost use Rattle.std.specs.Prelude.{◌≡◌, ◌-◌, ◌^◌, ◌<◌, IfOk, length};
+ghost use Rattle.std.specs.Prelude.{◌≡◌, ◌-◌, ◌^◌, ◌<◌, ◌≤◌, IfOk, length};
 ghost use Rattle.computed_style.specs.Styles.{value_of};
 ghost use Rattle.doc_tree.specs.declared.limits.TheConstants.{MAX_STYLE_BYTES};
 ghost use Rattle.event_order.specs.Order.{IsInOrderOf};
@@ -11,11 +11,13 @@ ghost use Rattle.restyle.specs.Worlds.{events_of_frame, new_world, world_after_f
 
 use crate::edit::edit;
 use crate::edit_fault::EditFault;
+use crate::passes::{ByLevels, InTreeOrder};
 use crate::state::WorldState;
 use crate::world_frame::next_frame;
 use script_text::{Command, Refusal};
 use std::alloc::{AllocError, Global};
 use std::marker::Model;
+use std::thread::Threads;
 use style_data::{Entry, Event};
 use value_types::{PropertyId, Value};
 
@@ -75,7 +77,27 @@ impl World {
         ensures updated { IfOk result (λ r. r.1.updated ≡ length self.document.elements) }
     {
         let World { state } = self;
-        let (state, out) = next_frame(alloc, state)?;
+        let (state, out) = next_frame(&InTreeOrder, alloc, state)?;
+        Ok((World { state }, out))
+    }
+
+    /// The next frame, whose style change event is made by levels, each by so many workers at most. The world and what the frame tells are those of
+    /// `frame_alone`.
+    pub fn frame<R: Threads + Sync>(
+        self,
+        rt: &R,
+        alloc: Global,
+        workers: u32,
+    ) -> Result<(World, FrameOut), AllocError>
+        requires some { 0 < workers }
+        requires most { workers ≤ 64 }
+        requires few { self.frames < 2 ^ 32 - 1 }
+        ensures world { IfOk result (λ r. r.0 ≡ world_after_frame self) }
+        ensures events { IfOk result (λ r. IsInOrderOf r.1.events.items (events_of_frame self)) }
+        ensures updated { IfOk result (λ r. r.1.updated ≡ length self.document.elements) }
+    {
+        let World { state } = self;
+        let (state, out) = next_frame(&ByLevels { rt, workers }, alloc, state)?;
         Ok((World { state }, out))
     }
 

@@ -14,10 +14,11 @@ ghost use Rattle.restyle.specs.States.{HasSameRest, IsKeptState, world_of};
 ghost use Rattle.restyle.specs.StyleChanges.{frame_after, frame_parts};
 ghost use Rattle.restyle.specs.Worlds.{entries_of, events_of_frame, frame_of, ticked_world, with_frame, world_after_frame};
 
-use crate::alone::{Restyled, restyle_alone};
 use crate::departed::departed_items;
 use crate::entries::Entries;
 use crate::frame::{Frame, FrameContent};
+use crate::passes::Pass;
+use crate::restyling::{Restyled, restyle_by};
 use crate::state::{Removed, WorldState};
 use crate::world::FrameOut;
 use crate::world_laws::{frames_have_an_order, worlds_stay_distinct};
@@ -29,11 +30,13 @@ use std::alloc::{AllocError, Global};
 use style_data::{Entry, Event, Gone};
 use ticker::{laws, tick};
 
-/// The world after its next frame, and what the frame tells.
-pub(crate) fn next_frame(
+/// The world after its next frame, by this pass, and what the frame tells.
+pub(crate) fn next_frame<P: Pass>(
+    pass: &P,
     alloc: Global,
     state: WorldState,
 ) -> Result<(WorldState, FrameOut), AllocError>
+    requires ready { P.can_pass pass.now }
     requires kept { IsKeptState state }
     requires few { state.frames < 2 ^ 32 - 1 }
     ensures world { IfOk result (λ r. world_of r.0 ≡ world_after_frame (world_of state)) }
@@ -44,7 +47,7 @@ pub(crate) fn next_frame(
     worlds_stay_distinct();
     let mut state = state;
     let events = events_of(alloc, &mut state)?;
-    let (state, updated) = restyled(alloc, state)?;
+    let (state, updated) = restyled(pass, alloc, state)?;
     Ok((state, FrameOut { events, updated }))
 }
 
@@ -106,7 +109,12 @@ fn ordered_events(
 }
 
 /// The style change event of the frame, and how many elements were updated.
-fn restyled(alloc: Global, state: WorldState) -> Result<(WorldState, u32), AllocError>
+fn restyled<P: Pass>(
+    pass: &P,
+    alloc: Global,
+    state: WorldState,
+) -> Result<(WorldState, u32), AllocError>
+    requires ready { P.can_pass pass.now }
     requires tree { IsTree state.tree }
     requires order { AreInTreeOrder state.tree state.entries }
     requires time { IsMoment state.time.0 }
@@ -135,7 +143,7 @@ fn restyled(alloc: Global, state: WorldState) -> Result<(WorldState, u32), Alloc
         time,
         generation: frames + 1,
     });
-    let Restyled { frame, updated } = restyle_alone(alloc, frame)?;
+    let Restyled { frame, updated } = restyle_by(pass, alloc, frame)?;
     Ok((state_of(frame, numbers, removed), updated))
 }
 

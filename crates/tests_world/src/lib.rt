@@ -6,3 +6,5 @@
 mod lines;
 #[cfg(test)]
 mod restyling;
+#[cfg(test)]
+mod workers;

@@ -4,7 +4,7 @@ ghost use Rattle.style_data.specs.Transitions.{IsMoment};
 
 use doc_tree::Tree;
 use fix_num::{Fix, Micros};
-use restyle::{Frame, restyle_alone};
+use restyle::{Frame, restyle, restyle_alone};
 use sheet_rules::read_sheet;
 use sheet_types::Sheets;
 use std::alloc::{AllocError, Global};
@@ -86,7 +86,7 @@ fn font_sizes_move_together(rt: HostRuntime) -> Result<(), Fail> {
     let frame = Frame::first(rt.alloc(), chain(rt.alloc())?, small, Micros(0), 1)?;
     let frame = restyle_alone(rt.alloc(), frame)?.frame;
     let frame = restyle_alone(rt.alloc(), at(with_sheets(frame, large), Micros(0)))?.frame;
-    let restyled = restyle_alone(rt.alloc(), at(frame, Micros(500_000)))?;
+    let restyled = restyle(&rt, rt.alloc(), at(frame, Micros(500_000)), 4)?;
     assert!(rt; restyled.updated == 5);
     assert!(rt;
         has_font_sizes(

@@ -1,5 +1,6 @@
 pub mod ByParts
 pub mod CommandBounds
+pub mod Demonstrations
 pub mod Endings
 pub mod Frames
 pub mod Generated
@@ -12,3 +13,5 @@ pub mod Orders
 pub mod Playing
 pub mod Prefixes
 pub mod Questions
+pub mod Runs
+pub mod Tallies

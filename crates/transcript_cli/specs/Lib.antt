@@ -1,7 +1,9 @@
+pub mod Demo
 pub mod Exit
 pub mod Laws
 pub mod Listing
 pub mod Order
 pub mod Play
 pub mod Replay
+pub mod Run
 pub mod Transcript

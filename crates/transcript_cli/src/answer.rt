@@ -13,6 +13,7 @@ ghost use Rattle.transcript_cli.specs.Play.{IsAnswered};
 ghost use Rattle.transcript_cli.specs.Transcript.{answer_of, frame_lines, is_edit, judged_answer, output_of, reading_of};
 
 use crate::listing::write_listing;
+use crate::restyling::Restyling;
 use restyle::{EditFault, World};
 use script_text::{Command, ReadCommandFault, Refusal, read_command};
 use std::alloc::{AllocError, Global};
@@ -23,20 +24,22 @@ use value_types::PropertyId;
 /// Answers line `number`, given its text where it isn't over the limit: makes the piece what it writes, and gives the
 /// world after it and whether it is refused.
 #[tactic(auto, unfolding(crate::specs::Transcript::answer_of))]
-pub(crate) fn answer(
+pub(crate) fn answer<F: Restyling>(
     alloc: Global,
+    restyling: &F,
     world: Box<World>,
     number: u32,
     line: Option<&[u8]>,
     piece: &mut Vec<u8>,
 ) -> Result<(Box<World>, bool), AllocError>
+    requires ready { F.can_restyle restyling.now }
     requires few { world.value.frames < 2 ^ 32 - 1 }
     requires short { IfSome line (λ text. length text.now ≤ MAX_STYLE_BYTES) }
     ensures { IfOk result (λ r. IsAnswered (answer_of world.value number (option_copied line.entry)) r.1 [] piece.new.items r.0.value) }
 {
     piece.clear();
     match read_line(alloc, line) {
-        Ok(command) => perform(alloc, world, number, &command, piece),
+        Ok(command) => perform(alloc, restyling, world, number, &command, piece),
         Err(ReadCommandFault::Refused(refusal)) => {
             write_refused(piece, number, &refusal)?;
             Ok((world, true))
@@ -60,13 +63,15 @@ fn read_line(alloc: Global, line: Option<&[u8]>) -> Result<Command, ReadCommandF
 
 /// Answers a command as that of line `number`: appends what it writes, and gives the world after it and whether it is
 /// refused.
-fn perform(
+fn perform<F: Restyling>(
     alloc: Global,
+    restyling: &F,
     world: Box<World>,
     number: u32,
     command: &Command,
     piece: &mut Vec<u8>,
 ) -> Result<(Box<World>, bool), AllocError>
+    requires ready { F.can_restyle restyling.now }
     requires few { world.value.frames < 2 ^ 32 - 1 }
     requires numbers { AreInBounds command.now }
     requires text { IsNoLongerThan MAX_STYLE_BYTES command.now }
@@ -74,7 +79,7 @@ fn perform(
 {
     let mut world = world;
     match command {
-        Command::Frame => Ok((frame(alloc, world, piece)?, false)),
+        Command::Frame => Ok((frame(alloc, restyling, world, piece)?, false)),
         _ => {
             let refused = edit(alloc, &mut *world, number, command, piece)?;
             Ok((world, refused))
@@ -83,12 +88,18 @@ fn perform(
 }
 
 /// The world after a frame, whose events are appended.
-fn frame(alloc: Global, world: Box<World>, piece: &mut Vec<u8>) -> Result<Box<World>, AllocError>
-    requires { world.value.frames < 2 ^ 32 - 1 }
+fn frame<F: Restyling>(
+    alloc: Global,
+    restyling: &F,
+    world: Box<World>,
+    piece: &mut Vec<u8>,
+) -> Result<Box<World>, AllocError>
+    requires ready { F.can_restyle restyling.now }
+    requires few { world.value.frames < 2 ^ 32 - 1 }
     ensures world { IfOk result (λ w. w.value ≡ world_after_frame world.value) }
     ensures piece { OnOk result (piece.new.items ≡ piece.old.items ++ frame_lines world.value) }
 {
-    let (world, out) = Box::into_inner(world).frame_alone(alloc)?;
+    let (world, out) = restyling.frame(alloc, Box::into_inner(world))?;
     write_events(piece, &out.events)?;
     Ok(Box::new(alloc, world)?)
 }

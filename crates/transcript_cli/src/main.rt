@@ -1,21 +1,27 @@
-//! Floor: programs. Knows no thread yet.
+//! Floor: programs. Knows of threads in `restyling` alone, and in the top call, which hands them on.
 //!
 //! Reads a script of edits and frames, restyles, and writes events and computed values.
 #![tactic(auto)]
 
 mod answer;
 mod arguments;
+mod demo;
 mod gate;
+mod growing;
 mod laws;
 mod listing;
 mod replay;
+mod restyling;
+mod run;
 mod status;
+mod tally;
 #[cfg(test)]
 mod tests;
+mod unfailing;
 
 use crate::arguments::words;
 use crate::gate::IdleGate;
-use crate::replay::run;
+use crate::run::run;
 use crate::status::Status;
 use std::process::ExitCode;
 use std::{env, io};

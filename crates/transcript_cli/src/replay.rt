@@ -13,38 +13,30 @@ ghost use Rattle.transcript_cli.specs.Transcript.{answer_of};
 ghost use Rattle.transcript_cli.specs.Replay.{IsFinished, IsReplay};
 
 use crate::answer::answer;
-use crate::gate::Gate;
+use crate::restyling::{Alone, Restyling};
 use crate::status::Status;
 use restyle::World;
 use std::alloc::Global;
-use std::sync::Wait;
-use std::thread::Threads;
 use text_io::{Line, LineFault, Lines, Sink, Source, WriteFault, put_all};
-
-/// Reads a script from the source and writes its transcript to the sink, piece by piece. The words are those of the
-/// command line after the program's name; there are none that it takes.
-pub fn run<R: Threads + Wait + Sync, S: Source, K: Sink, G: Gate>(
-    _rt: &R,
-    alloc: Global,
-    words: &[String],
-    source: &mut S,
-    sink: &mut K,
-    _gate: &G,
-) -> Status
-    ensures replay { IsReplay result (S.left source.old) (S.left source.new) (S.faults source.old) (S.faults source.new)
-        (record { bytes = K.held sink.old; faults = K.faults sink.old; empty_writes = K.empty_writes sink.old })
-        (record { bytes = K.held sink.new; faults = K.faults sink.new; empty_writes = K.empty_writes sink.new }) }
-    ensures usage { (result ≡ Status.Usage) ↔ (0 < length words.now) }
-    ensures nothing { result ≡ Status.Usage → (source.new ≡ source.old) × (sink.new ≡ sink.old) }
-{
-    if !words.is_empty() {
-        return Status::Usage;
-    }
-    replay_alone(alloc, source, sink)
-}
 
 /// The same as `run` with no words, on one thread. It waits for nobody, and always returns.
 pub fn replay_alone<S: Source, K: Sink>(alloc: Global, source: &mut S, sink: &mut K) -> Status
+    ensures replay { IsReplay result (S.left source.old) (S.left source.new) (S.faults source.old) (S.faults source.new)
+        (record { bytes = K.held sink.old; faults = K.faults sink.old; empty_writes = K.empty_writes sink.old })
+        (record { bytes = K.held sink.new; faults = K.faults sink.new; empty_writes = K.empty_writes sink.new }) }
+    ensures no_usage { result ≢ Status.Usage }
+{
+    replay(alloc, &Alone, source, sink)
+}
+
+/// Reads a script and writes its transcript, whose frames are made so.
+pub(crate) fn replay<F: Restyling, S: Source, K: Sink>(
+    alloc: Global,
+    restyling: &F,
+    source: &mut S,
+    sink: &mut K,
+) -> Status
+    requires ready { F.can_restyle restyling.now }
     ensures replay { IsReplay result (S.left source.old) (S.left source.new) (S.faults source.old) (S.faults source.new)
         (record { bytes = K.held sink.old; faults = K.faults sink.old; empty_writes = K.empty_writes sink.old })
         (record { bytes = K.held sink.new; faults = K.faults sink.new; empty_writes = K.empty_writes sink.new }) }
@@ -60,17 +52,19 @@ pub fn replay_alone<S: Source, K: Sink>(alloc: Global, source: &mut S, sink: &mu
     let Ok(world) = Box::new(alloc, world) else {
         return Status::NoMemory;
     };
-    play(alloc, lines, world, source, sink)
+    play(alloc, restyling, lines, world, source, sink)
 }
 
 /// Answers the lines that the reader has left.
-fn play<S: Source, K: Sink>(
+fn play<F: Restyling, S: Source, K: Sink>(
     alloc: Global,
+    restyling: &F,
     mut lines: Lines,
     mut world: Box<World>,
     source: &mut S,
     sink: &mut K,
 ) -> Status
+    requires ready { F.can_restyle restyling.now }
     requires new_lines { lines ≡ record { pending = []; taken = 0; fault = None; text = None } }
     requires new_world { world.value ≡ new_world }
     ensures replay { IsReplay result (S.left source.old) (S.left source.new) (S.faults source.old) (S.faults source.new)
@@ -82,7 +76,15 @@ fn play<S: Source, K: Sink>(
     let mut number = 0;
     let mut refused = false;
     'script: loop {
-        let found = match answer_next(alloc, &mut lines, world, number + 1, &mut piece, source) {
+        let found = match answer_next(
+            alloc,
+            restyling,
+            &mut lines,
+            world,
+            number + 1,
+            &mut piece,
+            source,
+        ) {
             Ok(found) => found,
             Err(status) => return status,
         };
@@ -101,14 +103,16 @@ fn play<S: Source, K: Sink>(
 
 /// Reads the next line and answers it as line `number`: the world after it and whether it is refused, or None where no
 /// line is left.
-fn answer_next<S: Source>(
+fn answer_next<F: Restyling, S: Source>(
     alloc: Global,
+    restyling: &F,
     lines: &mut Lines,
     world: Box<World>,
     number: u32,
     piece: &mut Vec<u8>,
     source: &mut S,
 ) -> Result<Option<(Box<World>, bool)>, Status>
+    requires ready { F.can_restyle restyling.now }
     requires no_fault { lines.old.fault ≡ None }
     requires few { world.value.frames < 2 ^ 32 - 1 }
     ensures end { IfOk result (λ found. IfNone found
@@ -126,8 +130,8 @@ fn answer_next<S: Source>(
         HasNoFeed (lines.old.pending ++ take (MAX_INPUT - lines.old.taken) left)) }
 {
     match lines.next_line(source) {
-        Ok(Line::Text) => answer_one(alloc, world, number, Some(lines.text()), piece),
-        Ok(Line::Long) => answer_one(alloc, world, number, None, piece),
+        Ok(Line::Text) => answer_one(alloc, restyling, world, number, Some(lines.text()), piece),
+        Ok(Line::Long) => answer_one(alloc, restyling, world, number, None, piece),
         Ok(Line::End) => Ok(None),
         Err(LineFault::ReadFault) => Err(Status::ReadFault),
         Err(LineFault::TooMuch) => Err(Status::TooMuch),
@@ -135,20 +139,22 @@ fn answer_next<S: Source>(
 }
 
 /// Answers line `number`, given its text where it isn't over the limit.
-fn answer_one(
+fn answer_one<F: Restyling>(
     alloc: Global,
+    restyling: &F,
     world: Box<World>,
     number: u32,
     line: Option<&[u8]>,
     piece: &mut Vec<u8>,
 ) -> Result<Option<(Box<World>, bool)>, Status>
+    requires ready { F.can_restyle restyling.now }
     requires few { world.value.frames < 2 ^ 32 - 1 }
     requires short { IfSome line (λ text. length text.now ≤ MAX_STYLE_BYTES) }
     ensures answer { IfOk result (λ found. IsSomeAnd found (λ r.
         IsAnswered (answer_of world.value number (option_copied line.entry)) r.1 [] piece.new.items r.0.value)) }
     ensures memory { IfErr result (λ status. status ≡ Status.NoMemory) }
 {
-    match answer(alloc, world, number, line, piece) {
+    match answer(alloc, restyling, world, number, line, piece) {
         Ok(answered) => Ok(Some(answered)),
         Err(_) => Err(Status::NoMemory),
     }

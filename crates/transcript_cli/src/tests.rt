@@ -1,7 +1,10 @@
 ghost use Rattle.std.specs.Prelude.{◌≤◌};
 
+use crate::demo::demonstrate;
 use crate::gate::IdleGate;
-use crate::replay::{replay_alone, run};
+use crate::replay::replay_alone;
+use crate::restyling::Alone;
+use crate::run::run;
 use crate::status::Status;
 use std::alloc::{AllocError, Global};
 use std::test::Fail;
@@ -563,6 +566,40 @@ fn limits_of_bytes(rt: HostRuntime) -> Result<(), Fail> {
         let (ended, sink) = replayed(alloc, &script, 100_000, Vec::new(alloc))?;
         assert_eq!(rt; ended, status, "{bytes}");
         assert_eq!(rt; sink.bytes(), transcript.as_bytes(), "{bytes}");
+    }
+    Ok(())
+}
+
+#[test]
+fn a_demonstration(rt: HostRuntime) -> Result<(), Fail> {
+    let alloc = rt.alloc();
+    let mut sink = MemSink::new(alloc, ROOM, 7, Vec::new(alloc))?;
+    assert_eq!(rt; demonstrate(alloc, &Alone, 7, &mut sink), Status::Done);
+    assert_eq!(rt;
+        sink.bytes(),
+        b"demo 7 frames 62 events 8202 cancels 149 ends 2585\n".as_slice()
+    );
+    Ok(())
+}
+
+#[test]
+fn any_number_of_workers(rt: HostRuntime) -> Result<(), Fail> {
+    let alloc = rt.alloc();
+    for count in ["1", "004", "64"] {
+        let mut words = Vec::new(alloc);
+        words.push(String::from_str(alloc, "--workers")?)?;
+        words.push(String::from_str(alloc, count)?)?;
+        let mut source = MemSource::new(
+            Vec::from_slice(alloc, SCRIPT.as_bytes())?,
+            5,
+            Vec::new(alloc),
+        );
+        let mut sink = MemSink::new(alloc, ROOM, 3, Vec::new(alloc))?;
+        assert_eq!(rt;
+            run(&rt, alloc, &words, &mut source, &mut sink, &IdleGate),
+            Status::Done
+        );
+        assert_eq!(rt; sink.bytes(), TRANSCRIPT.as_bytes());
     }
     Ok(())
 }

@@ -8,19 +8,19 @@ use Rattle.restyle.proofs.WorldFrames.{frame_is, state_kept}
 use Rattle.restyle.proofs.world_frame.next_frame.Goals as goal
 
 pub restyled-requires-clause-tree : goal.restyled-requires-clause-tree
-restyled-requires-clause-tree c = subst IsTree (sym c.in_ok-events.ensures.rest.tree) c.requires.kept.world.tree
+restyled-requires-clause-tree g c = subst IsTree (sym c.in_ok-events.ensures.rest.tree) c.requires.kept.world.tree
 
 pub restyled-requires-clause-time : goal.restyled-requires-clause-time
-restyled-requires-clause-time c = subst (λ (t : Micros). IsMoment t.0) (sym c.in_ok-events.ensures.rest.time) c.requires.kept.time
+restyled-requires-clause-time g c = subst (λ (t : Micros). IsMoment t.0) (sym c.in_ok-events.ensures.rest.time) c.requires.kept.time
 
 pub returns-clause-world : goal.returns-clause-world
-returns-clause-world c = frame_is (world_of c.args.state) (world_of c.events_of.new.state) (world_of c.in_ok-state.state) c.in_ok-events.ensures.world c.in_ok-state.ensures.world
+returns-clause-world g c = frame_is (world_of c.args.state) (world_of c.events_of.new.state) (world_of c.in_ok-state.state) c.in_ok-events.ensures.world c.in_ok-state.ensures.world
 
 pub returns-clause-kept : goal.returns-clause-kept
-returns-clause-kept c =
+returns-clause-kept g c =
     state_kept c.worlds_stay_distinct.ensures.frame c.args.state c.in_ok-state.state c.requires.kept
     (frame_is (world_of c.args.state) (world_of c.events_of.new.state) (world_of c.in_ok-state.state) c.in_ok-events.ensures.world c.in_ok-state.ensures.world) c.in_ok-state.ensures.order
     c.in_ok-state.ensures.removed
 
 pub returns-clause-updated : goal.returns-clause-updated
-returns-clause-updated c = c.in_ok-state.ensures.updated ∙ ap (λ (d : Document). length d.elements) c.in_ok-events.ensures.rest.tree
+returns-clause-updated g c = c.in_ok-state.ensures.updated ∙ ap (λ (d : Document). length d.elements) c.in_ok-events.ensures.rest.tree

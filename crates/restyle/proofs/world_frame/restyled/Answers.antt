@@ -5,15 +5,15 @@ use Rattle.restyle.proofs.WorldFrames.{IsLeftBy, closed, order_left, world_left}
 use Rattle.restyle.proofs.world_frame.restyled.Goals as goal
 
 pub new-frame-requires-clause-entries : goal.new-frame-requires-clause-entries
-new-frame-requires-clause-entries c = ap (map (λ x. x.0)) (sym c.into_parts-numbers.ensures.list) ∙ c.requires.order
+new-frame-requires-clause-entries g c = ap (map (λ x. x.0)) (sym c.into_parts-numbers.ensures.list) ∙ c.requires.order
 
 pub state_of-requires : goal.state_of-requires
-state_of-requires c =
+state_of-requires g c =
     let tree = ap (λ (f : FrameParts). f.document) c.in_ok-frame.ensures.frame ∙ (closed c.new-frame.result).document ∙ ap (λ (f : FrameParts). f.document) c.new-frame.ensures in
     record { numbers = c.into_parts-numbers.ensures.numbers ∙ ap (map (λ x. x.0)) (sym c.into_parts-numbers.ensures.list) ∙ c.requires.order ∙ ap (λ (d : Document). numbers_of d.elements) (sym tree) }
 
 pub returns-clause-world : goal.returns-clause-world
-returns-clause-world c =
+returns-clause-world g c =
     let left : IsLeftBy c.args.state c.state_of.result c.in_ok-frame.field-0.frame = record {
       after = c.in_ok-frame.ensures.frame ∙ ap frame_after (c.new-frame.ensures ∙ ap (λ es. frame_parts c.args.state.tree c.args.state.last_sheets c.args.state.sheets es c.args.state.time (c.args.state.frames + 1)) (sym c.into_parts-numbers.ensures.list));
       parts = c.state_of.ensures.frame;
@@ -21,7 +21,7 @@ returns-clause-world c =
     world_left c.args.state c.state_of.result c.in_ok-frame.field-0.frame left c.requires.tree c.requires.order c.requires.removed (ap (λ v. v.items) c.state_of.ensures.removed ∙ c.requires.removed)
 
 pub returns-clause-order : goal.returns-clause-order
-returns-clause-order c =
+returns-clause-order g c =
     let left : IsLeftBy c.args.state c.state_of.result c.in_ok-frame.field-0.frame = record {
       after = c.in_ok-frame.ensures.frame ∙ ap frame_after (c.new-frame.ensures ∙ ap (λ es. frame_parts c.args.state.tree c.args.state.last_sheets c.args.state.sheets es c.args.state.time (c.args.state.frames + 1)) (sym c.into_parts-numbers.ensures.list));
       parts = c.state_of.ensures.frame;

@@ -2,10 +2,10 @@ use Rattle.std.proofs.Common.{◌∙◌, ap}
 use Rattle.element_step.specs.Works.{document_event}
 use Rattle.restyle.specs.StyleChanges.{root_size_of}
 use Rattle.restyle.proofs.Frames.{after_is}
-use Rattle.restyle.proofs.alone.restyle_alone.Goals as goal
+use Rattle.restyle.proofs.restyling.restyle_by.Goals as goal
 
 pub returns-clause-frame : goal.returns-clause-frame
-returns-clause-frame c =
+returns-clause-frame g c =
     let r = c.into_content-tree.result in
     c.new-frame.ensures
     ∙ after_is c.args.frame r.tree r.old r.sheets r.entries.items r.time r.generation c.new-work.result _ _ _ c.in_ok-entries.entries.items c.into_content-tree.ensures.value

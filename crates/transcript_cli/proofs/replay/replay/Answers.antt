@@ -1,6 +1,6 @@
 use Rattle.std.proofs.Common.{refl, inr}
 use Rattle.transcript_cli.proofs.Endings.{nothing_done}
-use Rattle.transcript_cli.proofs.replay.replay_alone.Goals as goal
+use Rattle.transcript_cli.proofs.replay.replay.Goals as goal
 
 pub returns-in_default-clause-replay : goal.returns-in_default-clause-replay
 returns-in_default-clause-replay g c = nothing_done _ _ _ _ (inr refl)

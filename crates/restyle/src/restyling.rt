@@ -1,17 +1,18 @@
-//! The restyle pass on one thread.
+//! The style change event of a frame.
 
-ghost use Rattle.std.specs.Prelude.{◌≡◌, IfOk, IfSome, length, map};
+ghost use Rattle.std.specs.Prelude.{◌≡◌, ◌<◌, ◌≤◌, IfOk, IfSome, length, map};
 ghost use Rattle.doc_tree.specs.Element.{numbers_of};
 ghost use Rattle.value_types.specs.Ranges.{IsSize};
 ghost use Rattle.restyle.specs.StyleChanges.{entry_after_event, frame_after, root_size_of};
 
 use crate::frame::{Frame, FrameContent};
+use crate::passes::{ByLevels, InTreeOrder, Pass};
 use crate::plan::plan_of;
 use doc_tree::laws;
 use element_step::ElementWork;
 use fix_num::Fix;
-use pass_core::pass_alone;
 use std::alloc::{AllocError, Global};
+use std::thread::Threads;
 use style_data::Entry;
 
 /// A frame after its style change event.
@@ -28,6 +29,35 @@ pub fn restyle_alone(alloc: Global, frame: Frame) -> Result<Restyled, AllocError
     ensures frame { IfOk result (λ r. r.frame ≡ frame_after frame) }
     ensures updated { IfOk result (λ r. r.updated ≡ length frame.document.elements) }
 {
+    restyle_by(&InTreeOrder, alloc, frame)
+}
+
+/// The style change event of a frame, by levels: the elements of a level are updated beside each other, in at most so many pieces as there are
+/// workers, after those of the levels above it. How many threads run the pieces isn't said; the frame is that of `restyle_alone`.
+pub fn restyle<R: Threads + Sync>(
+    rt: &R,
+    alloc: Global,
+    frame: Frame,
+    workers: u32,
+) -> Result<Restyled, AllocError>
+    requires some { 0 < workers }
+    requires most { workers ≤ 64 }
+    ensures frame { IfOk result (λ r. r.frame ≡ frame_after frame) }
+    ensures updated { IfOk result (λ r. r.updated ≡ length frame.document.elements) }
+{
+    restyle_by(&ByLevels { rt, workers }, alloc, frame)
+}
+
+/// The style change event of a frame, by this pass.
+pub(crate) fn restyle_by<P: Pass>(
+    pass: &P,
+    alloc: Global,
+    frame: Frame,
+) -> Result<Restyled, AllocError>
+    requires { P.can_pass pass.now }
+    ensures frame { IfOk result (λ r. r.frame ≡ frame_after frame) }
+    ensures updated { IfOk result (λ r. r.updated ≡ length frame.document.elements) }
+{
     let FrameContent {
         mut tree,
         old,
@@ -40,7 +70,7 @@ pub fn restyle_alone(alloc: Global, frame: Frame) -> Result<Restyled, AllocError
     let updated = tree.len() as u32;
     let root_size = root_size_of(entries.as_slice());
     let work = ElementWork::new(time, generation, tree, old, sheets, root_size);
-    let entries = update_all(alloc, &work, entries)?;
+    let entries = update_all(pass, alloc, &work, entries)?;
     let (tree, sheets) = work.into_parts();
     let old = sheets.copy()?;
     let frame = Frame::new(FrameContent {
@@ -55,12 +85,14 @@ pub fn restyle_alone(alloc: Global, frame: Frame) -> Result<Restyled, AllocError
 }
 
 /// The entries after the event, where these are those of the tree's elements in tree order.
-fn update_all(
+fn update_all<P: Pass>(
+    pass: &P,
     alloc: Global,
     work: &ElementWork,
     entries: Vec<(u32, Entry)>,
 ) -> Result<Vec<(u32, Entry)>, AllocError>
-    requires { map (λ x. x.0) entries.items ≡ numbers_of work.now.document.elements }
+    requires ready { P.can_pass pass.now }
+    requires numbers { map (λ x. x.0) entries.items ≡ numbers_of work.now.document.elements }
     ensures value { IfOk result (λ closing. closing.items ≡ map (λ x. (x.0, entry_after_event work.now entries.items x.0)) entries.items) }
     ensures numbers { IfOk result (λ closing. map (λ x. x.0) closing.items ≡ numbers_of work.now.document.elements) }
 {
@@ -69,7 +101,7 @@ fn update_all(
     laws::parents_stand_before();
     laws::subtrees_stand_together();
     let plan = plan_of(alloc, work.tree())?;
-    pass_alone(alloc, work, &plan, entries)
+    pass.closing_entries(alloc, work, &plan, entries)
 }
 
 /// The root's font size at the event before; `None` where no frame has styled it.

@@ -6,24 +6,24 @@ use Rattle.pass_core.specs.Passes.{IsPassOutcome, have_entries}
 use Rattle.restyle.specs.TreePlans.{places_of}
 use Rattle.restyle.proofs.Outcomes.{entries_distinct, entries_had, whole_event}
 use Rattle.restyle.proofs.ProperPlans.{TreeLaws}
-use Rattle.restyle.proofs.alone.update_all.Goals as goal
+use Rattle.restyle.proofs.restyling.update_all.Goals as goal
 
 if_ok : {T E : Type 0} {P Q : T → Type 0} (r : Result T E) → ((t : T) → P t → Q t) → IfOk r P → IfOk r Q
 if_ok (Ok t) step is = step t is
 if_ok (Err e) step is = is
 
-pub pass_alone-requires-clause-distinct : goal.pass_alone-requires-clause-distinct
-pass_alone-requires-clause-distinct c κs =
+pub closing_entries-requires-clause-distinct : goal.closing_entries-requires-clause-distinct
+closing_entries-requires-clause-distinct g c =
     let laws : TreeLaws = record {
       ancestors = c.ancestors_go_by_parents.ensures;
       differ = c.numbers_differ.ensures;
       parent = c.parents_stand_before.ensures;
       together = c.subtrees_stand_together.ensures;
     } in
-    entries_distinct c.args.work.now (subst (λ d. IsTree d) c.tree.ensures c.in_ok-plan.ensures.tree) laws c.args.entries.items c.requires
+    entries_distinct c.args.work.now (subst (λ d. IsTree d) c.tree.ensures c.in_ok-plan.ensures.tree) laws c.args.entries.items c.requires.numbers
 
-pub pass_alone-requires-clause-entries : goal.pass_alone-requires-clause-entries
-pass_alone-requires-clause-entries c κs =
+pub closing_entries-requires-clause-entries : goal.closing_entries-requires-clause-entries
+closing_entries-requires-clause-entries g c =
     let laws : TreeLaws = record {
       ancestors = c.ancestors_go_by_parents.ensures;
       differ = c.numbers_differ.ensures;
@@ -31,10 +31,10 @@ pass_alone-requires-clause-entries c κs =
       together = c.subtrees_stand_together.ensures;
     } in
     subst (λ ps. have_entries ps c.args.entries.items ≡ true) (sym (c.in_ok-plan.ensures.value ∙ ap places_of c.tree.ensures))
-    (entries_had c.args.work.now (subst (λ d. IsTree d) c.tree.ensures c.in_ok-plan.ensures.tree) laws c.args.entries.items c.requires)
+    (entries_had c.args.work.now (subst (λ d. IsTree d) c.tree.ensures c.in_ok-plan.ensures.tree) laws c.args.entries.items c.requires.numbers)
 
 pub returns-clause-value : goal.returns-clause-value
-returns-clause-value c =
+returns-clause-value g c =
     let w = c.args.work.now in
     let entries = c.args.entries.items in
     let tree = subst (λ d. IsTree d) c.tree.ensures c.in_ok-plan.ensures.tree in
@@ -44,7 +44,7 @@ returns-clause-value c =
       parent = c.parents_stand_before.ensures;
       together = c.subtrees_stand_together.ensures;
     } in
-    if_ok c.pass_alone.result (λ closing outcome.
-    whole_event w tree laws entries closing.items c.requires (entries_distinct w tree laws entries c.requires)
+    if_ok c.closing_entries.result (λ closing outcome.
+    whole_event w tree laws entries closing.items c.requires.numbers (entries_distinct w tree laws entries c.requires.numbers)
     (subst (λ ps. IsPassOutcome (element_meaning w) ps entries closing.items) (c.in_ok-plan.ensures.value ∙ ap places_of c.tree.ensures) outcome))
-    c.pass_alone.ensures
+    c.closing_entries.ensures

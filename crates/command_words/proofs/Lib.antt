@@ -1,0 +1,4 @@
+pub mod Walks
+pub mod Shapes
+pub mod Cuts
+pub mod Readings
