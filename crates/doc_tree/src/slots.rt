@@ -1,6 +1,6 @@
 //! Slots and marks.
 
-ghost use Rattle.std.specs.Prelude.{◌≡◌, ◌+◌, ◌-◌, ◌*◌, ◌/◌, ◌<◌, IfOk, IfSome, IfNone, false};
+ghost use Rattle.std.specs.Prelude.{◌≡◌, ◌+◌, ◌-◌, ◌*◌, ◌/◌, ◌<◌, IfOk, IfSome, IfNone, IsTrue, false};
 ghost use Rattle.doc_tree.specs.Element.{is_in};
 ghost use Rattle.doc_tree.specs.Marks.{document_of, empty_kept, kept_of, IsNodeOf, IsSlotOf, AreMarksOfTree};
 
@@ -49,8 +49,36 @@ pub fn empty_nodes(alloc: Global) -> Result<Nodes, AllocError>
     })
 }
 
-/// The slot of element `n`, if it is in the tree.
+/// The slot of element `n`, if it is in the tree. Documents mostly number their elements one after another, so that the
+/// number tells where its slot is likely to be.
 pub fn slot_of(nodes: &Nodes, n: u32) -> Option<usize>
+    requires { AreMarksOfTree (kept_of nodes.now) }
+    ensures found { IfSome result (IsSlotOf (kept_of nodes.now) n) }
+    ensures absent { IfNone result (is_in n (document_of (kept_of nodes.now)).elements ≡ false) }
+{
+    let likely = (n as usize).saturating_sub(1);
+    if is_in_slot(nodes, likely, n) {
+        return Some(likely);
+    }
+    indexed_slot_of(nodes, n)
+}
+
+/// Whether element `n` is in this slot.
+fn is_in_slot(nodes: &Nodes, slot: usize, n: u32) -> bool
+    requires { AreMarksOfTree (kept_of nodes.now) }
+    ensures { IsTrue result → IsSlotOf (kept_of nodes.now) n slot }
+{
+    if slot >= nodes.slots.len() {
+        return false;
+    }
+    match &nodes.slots[slot] {
+        None => false,
+        Some(node) => node.element.number() == n,
+    }
+}
+
+/// The slot of element `n`, by the index of the numbers used.
+fn indexed_slot_of(nodes: &Nodes, n: u32) -> Option<usize>
     requires { AreMarksOfTree (kept_of nodes.now) }
     ensures found { IfSome result (IsSlotOf (kept_of nodes.now) n) }
     ensures absent { IfNone result (is_in n (document_of (kept_of nodes.now)).elements ≡ false) }

@@ -1,7 +1,7 @@
 use Rattle.std.proofs.Common.{◌<◌, length, sym, ◌∙◌, ap, is_some, arith}
 use Rattle.doc_tree.specs.Marks.{kept_of}
 use Rattle.doc_tree.proofs.Sound.{absent-unused, absent-cleared, found-slot, read_slot}
-use Rattle.doc_tree.proofs.slots.slot_of.Goals as goal
+use Rattle.doc_tree.proofs.slots.indexed_slot_of.Goals as goal
 
 pub returns-in_default-clause-absent : goal.returns-in_default-clause-absent
 returns-in_default-clause-absent c = absent-unused (kept_of c.args.nodes.now) c.requires c.args.n (sym c.in_default.ensures.found)
