@@ -1,7 +1,7 @@
 -- Values that are given on top of others.
 use Rattle.std.proofs.Common.{◌≡◌, ℕ, refl, sym, ◌∙◌, ap, inl, inr, arith, rules}
-use Rattle.std.specs.Prelude.{◌≢◌, Bool, true, false, cond, nat_eq, List, [], ◌∷◌, ◌++◌, find, length, option_map, set, unwrap_or, Option, None, Some, IfSome}
-use Rattle.std.proofs.lemmas.Bool.{cases_eq}
+use Rattle.std.specs.Prelude.{◌≢◌, Bool, true, false, cond, nat_eq, List, [], ◌∷◌, ◌++◌, find, is_some, length, option_map, set, unwrap_or, Option, None, Some, IfSome}
+use Rattle.std.proofs.lemmas.Bool.{cases_eq, false≢true}
 use Rattle.std.proofs.lemmas.List.{get_or-set_other, get_or-set_same, length-set}
 use Rattle.value_types.specs.Properties.{number_of}
 use Rattle.value_types.specs.Validity.{IsValid}
@@ -9,7 +9,9 @@ use Rattle.value_types.specs.declared.property.PropertyId.{PropertyId}
 use Rattle.value_types.specs.declared.value.Value.{Value}
 use Rattle.value_types.specs.declared.value.Value.TheVariants.{Auto}
 use Rattle.computed_style.specs.ByProperty.{kept_for}
-use Rattle.computed_style.specs.Styles.{AreGiven, AreValid, value_at, values_with}
+use Rattle.value_types.specs.Table.{initial_value}
+use Rattle.computed_style.specs.Styles.{AreGiven, AreValid, initial_values, value_at, values_with}
+use Rattle.computed_style.proofs.EveryProperty.{at_property}
 use Rattle.computed_style.proofs.Lookups.{found_has}
 use Rattle.computed_style.proofs.Tables.{number_small}
 
@@ -55,3 +57,10 @@ AreValid-values_with vs given are valid = record {
   count = length-values_with vs given ∙ are.count;
   each = λ p. rw (value_at-values_with vs given p are.count) (unwrap_has (IsValid p) (kept_for p given) (value_at vs p) (found_has IsValid given p (kept_for p given) refl valid) (are.each p));
 }
+
+-- the initial values, with values on top that aren't of this property
+pub initial_unless_given : (base : Option (List Value)) (given : List (PropertyId × Value)) (p : PropertyId) → is_some base ≡ false → kept_for p given ≡ None
+    → value_at (values_with (unwrap_or base initial_values) given) p ≡ initial_value p
+initial_unless_given None given p without none =
+    value_at-values_with initial_values given p refl ∙ ap (λ o. unwrap_or o (value_at initial_values p)) none ∙ at_property initial_value Auto p
+initial_unless_given (Some values) given p without none = absurd (false≢true (sym without))

@@ -107,6 +107,16 @@ impl Winning {
         })
     }
 
+    /// The same as `finish`, but that `last` is shared where it was collected alike: that takes no memory.
+    pub fn finish_like(self, alloc: Global, last: &DeclaredSet) -> Result<DeclaredSet, AllocError>
+        ensures { IfOk result (λ d. d ≡ self) }
+    {
+        if last.keeps_like(&self) {
+            return last.copy();
+        }
+        self.finish(alloc)
+    }
+
     /// Whether the other keeps the same declarations in the same order.
     fn is_kept_like(&self, other: &Winning) -> bool
         ensures { OnTrue result (self.now ≡ other.now) }
@@ -288,6 +298,16 @@ impl DeclaredSet {
             (None, None) => true,
             (Some(a), Some(b)) => a.get().winning().is_kept_like(b.get().winning()),
             _ => false,
+        }
+    }
+
+    /// Whether these were collected alike.
+    fn keeps_like(&self, winning: &Winning) -> bool
+        ensures { OnTrue result (self.now ≡ winning.now) }
+    {
+        match &self.set {
+            None => winning.is_empty(),
+            Some(set) => set.get().winning().is_kept_like(winning),
         }
     }
 

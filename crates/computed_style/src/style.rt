@@ -1,12 +1,14 @@
 //! Computed styles.
 
 ghost use Rattle.std.specs.Prelude.{◌≡◌, IfOk, option_copied, unwrap_or, ◌++◌, ◌↔◌, IsTrue};
+ghost use Rattle.std.specs.Bool.{OnTrue};
 ghost use Rattle.timing_types.specs.TimingLists.{initial_animations};
 ghost use Rattle.value_types.specs.TransitionLists.{initial_transitions};
 ghost use Rattle.value_types.specs.Ranges.{IsSize};
+ghost use Rattle.value_types.specs.Table.{initial_value};
 ghost use Rattle.value_types.specs.Validity.{IsValid};
 ghost use Rattle.computed_style.specs.ByProperty.{kept_for};
-ghost use Rattle.computed_style.specs.Styles.{AreGiven, AreValid, font_size_of, inherited_of, initial_style, pixels_of_length, style_of_values, style_with, value_of};
+ghost use Rattle.computed_style.specs.Styles.{AreGiven, AreValid, font_size_of, inherited_of, initial_style, initial_values, pixels_of_length, style_of_values, style_with, value_at, value_of, values_with};
 
 use crate::inherited::{Inherited, InheritedValues};
 use crate::same::{time_animations_alike, time_transitions_alike};
@@ -18,52 +20,50 @@ use std::marker::Model;
 use timing_types::{AnimationLists, Same};
 use value_types::{PropertyId, Shared, TransitionLists, Value, initial_value};
 
-/// The values and lists of a style, as they are shared. A list that is left out is initial.
+/// The values of a style, by the numbers of their properties, as they are shared. Contracts see their list.
 #[derive(Drop)]
-struct Base {
+struct BaseValues {
     values: [Value; 24],
+}
+
+impl Model for BaseValues {
+    ghost use Rattle.std.specs.Prelude.{List};
+    ghost use Rattle.value_types.specs.declared.value.Value.{Value as AnyValue};
+    ghost use Rattle.computed_style.specs.Styles.{AreValid};
+
+    ghost Value = { List AnyValue };
+
+    ghost view = { λ b. b.values };
+
+    ghost invariant = { λ b. AreValid b.values };
+}
+
+impl BaseValues {
+    fn value(&self, p: PropertyId) -> Value
+        ensures value { result ≡ value_at self.now p }
+        ensures valid { IsValid p result }
+        ensures all { AreValid self.now }
+    {
+        self.values[p.number() as usize]
+    }
+}
+
+/// The timing lists of a style, as they are shared. A list that is left out is initial.
+#[derive(Drop)]
+struct StyleLists {
     transitions: Option<Shared<TransitionLists>>,
     animations: Option<Shared<AnimationLists>>,
 }
 
-impl Model for Base {
-    ghost use Rattle.std.specs.Prelude.{unwrap_or};
-    ghost use Rattle.timing_types.specs.TimingLists.{initial_animations};
-    ghost use Rattle.value_types.specs.TransitionLists.{initial_transitions};
-    ghost use Rattle.computed_style.specs.Styles.{ComputedStyle, AreValid, style_of_values};
-
-    ghost Value = { ComputedStyle };
-
-    ghost view = { λ s. style_of_values s.values (unwrap_or s.transitions initial_transitions) (unwrap_or s.animations initial_animations) };
-
-    ghost invariant = { λ s. AreValid s.values };
-}
-
-impl Base {
-    fn value(&self, p: PropertyId) -> Value
-        ensures value { result ≡ value_of self.now p }
-        ensures valid { IsValid p result }
-        ensures all { AreValid self.now.values }
+impl StyleLists {
+    fn copy(&self) -> Result<StyleLists, AllocError>
+        ensures { IfOk result (λ lists. lists ≡ self.now) }
     {
-        self.values[p.number() as usize]
-    }
-
-    fn transitions(&self) -> Option<&TransitionLists>
-        ensures { unwrap_or (option_copied result) initial_transitions ≡ self.now.transitions }
-    {
-        match &self.transitions {
-            None => None,
-            Some(lists) => Some(lists.get()),
-        }
-    }
-
-    fn animations(&self) -> Option<&AnimationLists>
-        ensures { unwrap_or (option_copied result) initial_animations ≡ self.now.animations }
-    {
-        match &self.animations {
-            None => None,
-            Some(lists) => Some(lists.get()),
-        }
+        let transitions = copy_shared(&self.transitions)?;
+        Ok(StyleLists {
+            transitions,
+            animations: copy_shared(&self.animations)?,
+        })
     }
 }
 
@@ -96,22 +96,26 @@ impl Default for Given {
 }
 
 /// A computed style: a valid value of each property, and the lists that time transitions and animations (CSS
-/// Cascade 5, "computed value"). Styles share what they are based on, and the initial style takes no memory.
+/// Cascade 5, "computed value"). Styles share what they are based on, and one that has at most two values that aren't initial
+/// takes no memory.
 #[derive(Drop)]
 pub struct Style {
-    /// None of the initial style.
-    base: Option<Shared<Base>>,
-    /// Values that transitions and animations give on top of it.
+    /// None of the initial values.
+    base: Option<Shared<BaseValues>>,
+    lists: StyleLists,
+    /// Values on top of those.
     given: SmallVec<Given, 2>,
 }
 
 impl Model for Style {
     ghost use Rattle.std.specs.Prelude.{unwrap_or};
-    ghost use Rattle.computed_style.specs.Styles.{ComputedStyle, AreGiven, initial_style, style_with};
+    ghost use Rattle.timing_types.specs.TimingLists.{initial_animations};
+    ghost use Rattle.value_types.specs.TransitionLists.{initial_transitions};
+    ghost use Rattle.computed_style.specs.Styles.{ComputedStyle, AreGiven, initial_values, style_of_values, values_with};
 
     ghost Value = { ComputedStyle };
 
-    ghost view = { λ s. style_with (unwrap_or s.base initial_style) s.given.items };
+    ghost view = { λ s. style_of_values (values_with (unwrap_or s.base initial_values) s.given.items) (unwrap_or s.lists.transitions initial_transitions) (unwrap_or s.lists.animations initial_animations) };
 
     ghost invariant = { λ s. AreGiven s.given.items };
 }
@@ -127,13 +131,13 @@ impl Style {
         requires { AreValid values }
         ensures { IfOk result (λ s. s ≡ style_of_values values (unwrap_or transitions initial_transitions) (unwrap_or animations initial_animations)) }
     {
-        let base = Base {
-            values,
+        let lists = StyleLists {
             transitions,
             animations,
         };
         Ok(Style {
-            base: Some(Shared::new(alloc, base)?),
+            base: Some(Shared::new(alloc, BaseValues { values })?),
+            lists,
             given: SmallVec::new(alloc),
         })
     }
@@ -144,8 +148,34 @@ impl Style {
     {
         Style {
             base: None,
+            lists: StyleLists {
+                transitions: None,
+                animations: None,
+            },
             given: SmallVec::new(alloc),
         }
+    }
+
+    /// The initial values with these in place of some, and these lists; the first of a property counts. Takes no memory for up
+    /// to two values.
+    pub fn with_few(
+        alloc: Global,
+        given: &[(PropertyId, Value)],
+        transitions: Option<Shared<TransitionLists>>,
+        animations: Option<Shared<AnimationLists>>,
+    ) -> Result<Style, AllocError>
+        requires { AreGiven given.now }
+        ensures { IfOk result (λ s. s ≡ style_of_values (values_with initial_values given.now) (unwrap_or transitions initial_transitions) (unwrap_or animations initial_animations)) }
+    {
+        let lists = StyleLists {
+            transitions,
+            animations,
+        };
+        Ok(Style {
+            base: None,
+            lists,
+            given: joined(alloc, given, &[])?,
+        })
     }
 
     /// The style `base` with these values in place of its own, as transitions and animations give them; the
@@ -159,8 +189,10 @@ impl Style {
         ensures { IfOk result (λ s. s ≡ style_with base.now given.now) }
     {
         let given = joined(alloc, given, base.given.as_slice())?;
+        let lists = base.lists.copy()?;
         Ok(Style {
-            base: copy_base(&base.base)?,
+            base: copy_shared(&base.base)?,
+            lists,
             given,
         })
     }
@@ -174,13 +206,36 @@ impl Style {
         given_for(self.given.as_slice(), p).unwrap_or(base_value(&self.base, p))
     }
 
+    /// Whether both have the same value of a property. Takes least time where both are based on the initial style.
+    pub fn is_same_at(&self, other: &Style, p: PropertyId) -> bool
+        ensures { IsTrue result ↔ (value_of self.now p ≡ value_of other.now p) }
+    {
+        if self.is_initial_at(p) && other.is_initial_at(p) {
+            return true;
+        }
+        same(self.value(p), other.value(p))
+    }
+
+    /// Whether the style is seen at once to have the initial value of a property.
+    fn is_initial_at(&self, p: PropertyId) -> bool
+        ensures { OnTrue result (value_of self.now p ≡ initial_value p) }
+    {
+        if self.base.is_some() {
+            return false;
+        }
+        match given_for(self.given.as_slice(), p) {
+            None => true,
+            Some(_) => false,
+        }
+    }
+
     /// The lists that time transitions; `None` where each is initial.
     pub fn transitions(&self) -> Option<&TransitionLists>
         ensures { unwrap_or (option_copied result) initial_transitions ≡ self.now.transitions }
     {
-        match &self.base {
+        match &self.lists.transitions {
             None => None,
-            Some(base) => base.get().transitions(),
+            Some(lists) => Some(lists.get()),
         }
     }
 
@@ -188,9 +243,9 @@ impl Style {
     pub fn animations(&self) -> Option<&AnimationLists>
         ensures { unwrap_or (option_copied result) initial_animations ≡ self.now.animations }
     {
-        match &self.base {
+        match &self.lists.animations {
             None => None,
-            Some(base) => base.get().animations(),
+            Some(lists) => Some(lists.get()),
         }
     }
 
@@ -222,17 +277,19 @@ impl Style {
         ensures { IfOk result (λ s. s ≡ self.now) }
     {
         let given = SmallVec::from_slice(alloc, self.given.as_slice())?;
+        let lists = self.lists.copy()?;
         Ok(Style {
-            base: copy_base(&self.base)?,
+            base: copy_shared(&self.base)?,
+            lists,
             given,
         })
     }
 }
 
-fn base_value(base: &Option<Shared<Base>>, p: PropertyId) -> Value
-    ensures value { result ≡ value_of (unwrap_or base.now initial_style) p }
+fn base_value(base: &Option<Shared<BaseValues>>, p: PropertyId) -> Value
+    ensures value { result ≡ value_at (unwrap_or base.now initial_values) p }
     ensures valid { IsValid p result }
-    ensures all { AreValid (unwrap_or base.now initial_style).values }
+    ensures all { AreValid (unwrap_or base.now initial_values) }
 {
     match base {
         None => initial_value(p),
@@ -240,12 +297,12 @@ fn base_value(base: &Option<Shared<Base>>, p: PropertyId) -> Value
     }
 }
 
-fn copy_base(base: &Option<Shared<Base>>) -> Result<Option<Shared<Base>>, AllocError>
-    ensures { IfOk result (λ copy. copy ≡ base.now) }
+fn copy_shared<T>(shared: &Option<Shared<T>>) -> Result<Option<Shared<T>>, AllocError>
+    ensures { IfOk result (λ copy. copy ≡ shared.now) }
 {
-    match base {
+    match shared {
         None => Ok(None),
-        Some(base) => Ok(Some(base.copy()?)),
+        Some(shared) => Ok(Some(shared.copy()?)),
     }
 }
 
