@@ -1,18 +1,18 @@
 -- Values by the numbers of their properties.
 use Rattle.std.proofs.Common.{◌≡◌, ℕ, ◌+◌, ◌<◌, ◌≤◌, refl, sym, ◌∙◌, ap, subst, inl, inr, arith}
-use Rattle.std.specs.Prelude.{◌≢◌, List, [], ◌∷◌, map, set, length, slice_index_or}
-use Rattle.std.proofs.lemmas.Bool.{cases_eq, cases_lt}
+use Rattle.std.specs.Prelude.{◌≢◌, false, List, [], ◌∷◌, map, set, length, slice_index_or, is_some, IfNone, Option, None, Some}
+use Rattle.std.proofs.lemmas.Bool.{cases_eq, cases_lt, false≢true}
 use Rattle.std.proofs.lemmas.List.{get_or-set_other, get_or-set_same, length-set}
 use borrow.Author.Count.{below_more}
-use Rattle.timing_types.specs.TimingLists.{initial_animations}
 use Rattle.value_types.specs.Properties.{all_properties, number_of}
 use Rattle.value_types.specs.Table.{initial_value}
-use Rattle.value_types.specs.TransitionLists.{initial_transitions}
 use Rattle.value_types.specs.Validity.{IsValid}
 use Rattle.value_types.specs.declared.property.PropertyId.{PropertyId}
 use Rattle.value_types.specs.declared.value.Value.{Value}
 use Rattle.value_types.specs.declared.value.Value.TheVariants.{Auto}
-use Rattle.computed_style.specs.Styles.{AreValid, ComputedStyle, initial_style, initial_values, style_of_values, style_with}
+use Rattle.mini_cascade.specs.Sources.{AreInitial, computed_values}
+use Rattle.computed_style.specs.ComputedStyles.{StyleSources, computed_value}
+use Rattle.computed_style.specs.Styles.{AreValid, initial_values, values_with}
 use Rattle.computed_style.proofs.ByIndex.{every_property, number-property_at, property_at, same_by_index}
 use Rattle.computed_style.proofs.EveryProperty.{at_property}
 use Rattle.computed_style.proofs.Tables.{number_small}
@@ -32,11 +32,17 @@ valid_of values count each = record {
   each = λ p. every_property (λ q. IsValid q (slice_index_or values (number_of p) Auto)) p (each (number_of p) (number_small p));
 }
 
--- ---- values of which few aren't initial
+-- the computed value of a property, among those of all
+pub computed_at : (x : StyleSources) (p : PropertyId) (i : ℕ) → number_of p ≡ i → computed_value x p ≡ slice_index_or (computed_values x) i Auto
+unfolding computed_values
+computed_at x p i number =
+    sym (at_property (computed_value x) Auto p) ∙ ap (λ (n : ℕ). slice_index_or (map (computed_value x) all_properties) n Auto) number
 
--- initial from this number up to that one
-abbrev pub AreInitial : List Value → ℕ → ℕ → Type 0
-AreInitial values from to = (k : ℕ) → from ≤ k → k < to → slice_index_or values k Auto ≡ slice_index_or initial_values k Auto
+pub computed_count : (x : StyleSources) → length (computed_values x) ≡ 24
+unfolding computed_values
+computed_count x = refl
+
+-- ---- values of which few aren't initial
 
 -- the value of this number is initial, and so are all up to the next
 pub initial_one_more : (values : List Value) (from i : ℕ) (p : PropertyId) (v w : Value) → number_of p ≡ i → v ≡ slice_index_or values i Auto
@@ -48,6 +54,19 @@ initial_one_more values from i p v w number is initial same below k low high =
     ∙ sym (at_property initial_value Auto p)
     ∙ ap (λ (n : ℕ). slice_index_or initial_values n Auto) number)
     k high low
+
+-- a property whose computed value is initial comes after others
+pub computed_one_more : (x : StyleSources) (from i : ℕ) (p : PropertyId) → number_of p ≡ i → computed_value x p ≡ initial_value p
+    → AreInitial (computed_values x) from i → AreInitial (computed_values x) from (i + 1)
+computed_one_more x from i p number is below =
+    initial_one_more (computed_values x) from i p (computed_value x p) (initial_value p) number (computed_at x p i number) refl is below
+
+pub none_between : (values : List Value) (from : ℕ) → AreInitial values from from
+none_between values from k low high = absurd (omega (arith, low, high))
+
+pub none_then : {A P : Type 0} (o : Option A) → is_some o ≡ false → IfNone o P → P
+none_then None none is = is
+none_then (Some x) none is = absurd (false≢true (sym none))
 
 -- a value that isn't of this number is as before
 at_other : (values : List Value) (a : ℕ) (v : Value) (k : ℕ) (w : Value) → k ≢ a → w ≡ slice_index_or values k Auto → w ≡ slice_index_or (set values a v) k Auto
@@ -68,40 +87,32 @@ outside values from a to k below above low high off = elim (cases_lt k a) [
 strictly : (b k : ℕ) → b ≤ k → k ≢ b → b + 1 ≤ k
 strictly b k high off = omega (arith, off)
 
-plain : List Value → ComputedStyle
-plain values = style_of_values values initial_transitions initial_animations
-
-pub none_changed : (values : List Value) (a : ℕ) → length values ≡ 24 → a ≡ 24 → AreInitial values 0 a → initial_style ≡ style_of_values values initial_transitions initial_animations
-unfolding plain
-none_changed values a count all same =
-    ap plain (sym (same_by_index values initial_values Auto count (λ k less. same k (omega arith) (omega (arith, count, all, less)))))
+pub none_changed : (values : List Value) → length values ≡ 24 → AreInitial values 0 24 → initial_values ≡ values
+none_changed values count same =
+    sym (same_by_index values initial_values Auto count (λ k less. same k (omega arith) (omega (arith, count, less))))
 
 pub one_changed : (values : List Value) (a b : ℕ) (g : PropertyId × Value) → length values ≡ 24 → a < 24 → b ≡ 24
     → number_of g.0 ≡ a → g.1 ≡ slice_index_or values a Auto → AreInitial values 0 a → AreInitial values (a + 1) b
-    → style_with initial_style (g ∷ []) ≡ style_of_values values initial_transitions initial_animations
-unfolding plain
+    → values_with initial_values (g ∷ []) ≡ values
 one_changed values a b g count small all number is below above =
     let changed : List Value = set initial_values (number_of g.0) g.1 in
-    ap plain
-    (sym (same_by_index values changed Auto (count ∙ sym (length-set initial_values (number_of g.0) g.1))
+    sym (same_by_index values changed Auto (count ∙ sym (length-set initial_values (number_of g.0) g.1))
     (λ k less. elim (cases_eq k (number_of g.0)) [
       | inl at ↦ at_it initial_values (number_of g.0) g.1 k (slice_index_or values k Auto) refl (omega (arith, number, small)) at (ap (λ (n : ℕ). slice_index_or values n Auto) (at ∙ number) ∙ sym is)
       | inr off ↦
           at_other initial_values (number_of g.0) g.1 k (slice_index_or values k Auto) off
           (outside values 0 a b k below above (omega arith) (omega (arith, count, all, less)) (λ e. off (e ∙ sym number)))
-    ])))
+    ]))
 
 pub two_changed : (values : List Value) (a b c : ℕ) (g h : PropertyId × Value) → length values ≡ 24 → a + 1 ≤ b → b < 24 → c ≡ 24
     → number_of g.0 ≡ a → g.1 ≡ slice_index_or values a Auto → number_of h.0 ≡ b → h.1 ≡ slice_index_or values b Auto
     → AreInitial values 0 a → AreInitial values (a + 1) b → AreInitial values (b + 1) c
-    → style_with initial_style (g ∷ h ∷ []) ≡ style_of_values values initial_transitions initial_animations
-unfolding plain
+    → values_with initial_values (g ∷ h ∷ []) ≡ values
 two_changed values a b c g h count less small all number_a is_a number_b is_b below between above =
     let second : List Value = set initial_values (number_of h.0) h.1 in
     let both : List Value = set second (number_of g.0) g.1 in
     let size : length second ≡ 24 = length-set initial_values (number_of h.0) h.1 in
-    ap plain
-    (sym (same_by_index values both Auto (count ∙ sym (length-set second (number_of g.0) g.1 ∙ size))
+    sym (same_by_index values both Auto (count ∙ sym (length-set second (number_of g.0) g.1 ∙ size))
     (λ k within. elim (cases_eq k (number_of g.0)) [
       | inl at ↦ at_it second (number_of g.0) g.1 k (slice_index_or values k Auto) size (omega (arith, number_a, less, small)) at (ap (λ (n : ℕ). slice_index_or values n Auto) (at ∙ number_a) ∙ sym is_a)
       | inr off_a ↦
@@ -115,4 +126,4 @@ two_changed values a b c g h count less small all number_a is_a number_b is_b be
                   | inr high ↦ above k (strictly b k high (λ e. off_b (e ∙ sym number_b))) (omega (arith, count, all, within))
                 ])
           ])
-    ])))
+    ]))

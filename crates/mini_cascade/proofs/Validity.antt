@@ -1,6 +1,7 @@
 -- What is computed is a value of its property.
-use Rattle.std.proofs.Common.{◌≡◌, refl, sym, ap, subst, inl, inr, arith, rules}
-use Rattle.std.specs.Prelude.{◌≢◌, ℤ, List, [], ◌∷◌, Option, None, Some, IfSome, option_map, if◌then◌else◌}
+use Rattle.std.proofs.Common.{◌≡◌, refl, sym, ◌∙◌, ap, subst, inl, inr, arith, rules}
+use Rattle.std.proofs.lemmas.Bool.{false≢true}
+use Rattle.std.specs.Prelude.{◌≢◌, ℤ, List, [], ◌∷◌, Option, None, Some, IfSome, option_map, if◌then◌else◌, false}
 use Rattle.fix_num.specs.declared.units.Fix.{Fix}
 use Rattle.value_types.specs.Ranges.{IsSize}
 use Rattle.value_types.specs.Table.{fix, initial_value, is_inherited}
@@ -125,3 +126,9 @@ pub inherited_by_table : (s : ComputedStyle) (root_size : Fix) (p : PropertyId) 
     → inherited_value (Some (inherited_of s root_size)) p ≡ (if is_inherited p then value_of s p else initial_value p)
 inherited_by_table s root_size FontSize valid = length_again (value_of s FontSize) (valid.each FontSize)
 inherited_by_table s root_size p valid = refl
+
+-- what isn't inherited is initial
+pub not_inherited : (parent : Option InheritedValues) (p : PropertyId) → is_inherited p ≡ false → inherited_value parent p ≡ initial_value p
+not_inherited parent p off =
+    inherited_value-other parent p (λ is. false≢true (sym off ∙ ap is_inherited is)) (λ is. false≢true (sym off ∙ ap is_inherited is))
+    (λ is. false≢true (sym off ∙ ap is_inherited is)) (λ is. false≢true (sym off ∙ ap is_inherited is))

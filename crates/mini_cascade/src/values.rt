@@ -1,35 +1,53 @@
 //! Computed values.
 
-ghost use Rattle.std.specs.Prelude.{◌≡◌, [], ◌∷◌, IfSome, option_copied, option_map};
+ghost use Rattle.std.specs.Prelude.{◌≡◌, [], ◌∷◌, IfSome, Option, option_copied, option_map};
 ghost use Rattle.std.specs.Bool.{OnTrue};
 ghost use Rattle.std.specs.Option.{ForSome};
 ghost use Rattle.value_types.specs.Ranges.{IsSize};
+ghost use Rattle.value_types.specs.Table.{initial_value};
 ghost use Rattle.value_types.specs.Validity.{IsDeclaredFor, IsValid};
 ghost use Rattle.value_types.specs.declared.property.PropertyId.{PropertyId};
 ghost use Rattle.computed_style.specs.ByProperty.{kept_for};
 ghost use Rattle.computed_style.specs.ComputedStyles.{cascaded_value, computed_font_size, computed_value, declared_value, first_of, font_sizes, inherited_value, parent_size, root_size, style_sources};
 ghost use Rattle.computed_style.specs.Styles.{AreGiven, AreValid, pixels_of_length};
+ghost use Rattle.computed_style.specs.declared.inherited.InheritedValues.{InheritedValues};
 ghost use Rattle.mini_cascade.specs.Sources.{computed_values};
 
 use computed_style::{DeclaredSet, Inherited, Sampling};
 use computed_value::absolute;
 use fix_num::Fix;
-use value_types::{Declared, PropertyId, Value, initial_value};
+use value_types::{Declared, PropertyId, Value, initial_value, is_inherited};
 
-/// The computed value of each property, by number (CSS Cascade 5, section 6.1 "Cascade Sorting Order"): font-size
-/// first, since relative lengths of the others are of it.
+/// The computed value of font-size, which comes first, since relative lengths of the other properties are of it (CSS
+/// Cascade 5, section 6.1 "Cascade Sorting Order").
+pub(crate) fn computed_font_size<A: Sampling>(
+    d: &DeclaredSet,
+    anims: &A,
+    transitions: &[(PropertyId, Value)],
+    parent: Option<&Inherited>,
+) -> Value
+    requires { AreGiven transitions.now }
+    ensures value { result ≡ computed_font_size (style_sources d.now (A.animated_value anims.now) transitions.now (option_copied parent.entry)) }
+    ensures valid { IsValid PropertyId.FontSize result }
+{
+    let own = parent_size(parent);
+    cascaded_value(d, anims, transitions, parent, own, PropertyId::FontSize)
+}
+
+/// The computed value of each property, by number, where font-size has this value.
 pub(crate) fn computed_values<A: Sampling>(
     d: &DeclaredSet,
     anims: &A,
     transitions: &[(PropertyId, Value)],
     parent: Option<&Inherited>,
+    font_size: Value,
 ) -> [Value; 24]
-    requires { AreGiven transitions.now }
+    requires given { AreGiven transitions.now }
+    requires font_size { font_size ≡ computed_font_size (style_sources d.now (A.animated_value anims.now) transitions.now (option_copied parent)) }
+    requires valid { IsValid PropertyId.FontSize font_size }
     ensures value { result ≡ computed_values (style_sources d.now (A.animated_value anims.now) transitions.now (option_copied parent.entry)) }
     ensures valid { AreValid result }
 {
-    let own = parent_size(parent);
-    let font_size = cascaded_value(d, anims, transitions, parent, own, PropertyId::FontSize);
     let mut values = [Value::Auto; 24];
     for (i, p) in PropertyId::ALL.iter().enumerate() {
         values[i] = value_of_property(d, anims, transitions, parent, font_size, *p);
@@ -37,8 +55,20 @@ pub(crate) fn computed_values<A: Sampling>(
     values
 }
 
+/// Whether the property is seen at once to have its initial value: it isn't inherited, and nothing gives it another.
+pub(crate) fn is_initial<A: Sampling>(
+    d: &DeclaredSet,
+    anims: &A,
+    transitions: &[(PropertyId, Value)],
+    p: PropertyId,
+) -> bool
+    ensures { OnTrue result ((parent : Option InheritedValues) → computed_value (style_sources d.now (A.animated_value anims.now) transitions.now parent) p ≡ initial_value p) }
+{
+    !is_inherited(p) && !d.declares(p) && has_none(transitions) && anims.gives_nothing()
+}
+
 /// The value of a property, where font-size has this value.
-fn value_of_property<A: Sampling>(
+pub(crate) fn value_of_property<A: Sampling>(
     d: &DeclaredSet,
     anims: &A,
     transitions: &[(PropertyId, Value)],
