@@ -16,4 +16,4 @@ pub use laws::{
     precedences_differ, the_greatest_specificity_counts, unmatched_rules_change_nothing,
     winners_are_exact,
 };
-pub use winners::declared;
+pub use winners::{declared, declared_like};

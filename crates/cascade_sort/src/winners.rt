@@ -28,6 +28,21 @@ pub fn declared(
     // What these are, without saying how they are had.
     ensures winners { IfOk result (AreWinners (applied_to sheets.now tree.now.elements n)) }
 {
+    declared_like(alloc, sheets, tree, n, &DeclaredSet::empty())
+}
+
+/// The same, shared with `last` where that was collected alike, as of an element whose declarations haven't changed.
+pub fn declared_like(
+    alloc: Global,
+    sheets: &Sheets,
+    tree: &Tree,
+    n: u32,
+    last: &DeclaredSet,
+) -> Result<DeclaredSet, AllocError>
+    requires { IsTrue (is_in n tree.now.elements) }
+    ensures value { IfOk result (λ d. d ≡ declared_of sheets.now tree.now.elements n) }
+    ensures winners { IfOk result (AreWinners (applied_to sheets.now tree.now.elements n)) }
+{
     let Some(element) = tree.element(n) else {
         unreachable!();
     };
@@ -35,7 +50,7 @@ pub fn declared(
     let mut strongest = Strongest::none();
     offer_sheets(&mut strongest, sheets.as_slice(), element, tree, n);
     strongest.offer_block(STYLE, &style);
-    collected(alloc, &strongest, sheets.as_slice(), &style)
+    collected(alloc, &strongest, sheets.as_slice(), &style, last)
 }
 
 /// The precedence of the style attribute's block.
@@ -74,6 +89,7 @@ fn collected(
     strongest: &Strongest,
     sheets: &[Option<Sheet>],
     style: &[Declaration],
+    last: &DeclaredSet,
 ) -> Result<DeclaredSet, AllocError>
     ensures { IfOk result (λ d. d ≡ collected (declaration_by sheets.now style.now) strongest.now) }
 {
@@ -81,7 +97,7 @@ fn collected(
     for slot in strongest.slots() {
         put_kept(alloc, &mut winning, slot, sheets, style)?;
     }
-    winning.finish(alloc)
+    winning.finish_like(alloc, last)
 }
 
 fn put_kept(

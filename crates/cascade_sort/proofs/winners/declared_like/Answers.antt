@@ -11,7 +11,7 @@ use Rattle.cascade_sort.specs.Precedences.{of_style}
 use Rattle.cascade_sort.specs.Winning.{AreWinners, declared_of}
 use Rattle.cascade_sort.proofs.KeptWinners.{declared_is}
 use Rattle.cascade_sort.proofs.WinnerLaws.{are_winners}
-use Rattle.cascade_sort.proofs.winners.declared.Goals as goal
+use Rattle.cascade_sort.proofs.winners.declared_like.Goals as goal
 
 -- what all that was offered comes to
 all_offered : (c : goal.After-drop-style) → c.offer_block.new.self
