@@ -1,11 +1,15 @@
 //! Floor: values. Knows no element and no time: the values of the 24 properties and of the timing lists in one
-//! place, their types and table, the readers of their text, computed values, and their printed form.
+//! place, their types and table, the readers of their text, computed values, and their printed form; and that what is printed
+//! is read back.
 //!
 //! `PropertyId::by_name("opacity")`, then `read_value`, `absolute` and `print_value` take a value from a style text
 //! to a transcript.
 #![tactic(auto)]
 
+mod laws;
+
 pub use computed_value::absolute;
+pub use laws::printed_values_read_back;
 pub use list_text::{
     easing_as_spelled, list_as_spelled, one_easing, one_list, read_easing, read_list,
 };

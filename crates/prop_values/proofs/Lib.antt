@@ -1,0 +1,14 @@
+pub mod BackLemmas
+pub mod ColorLemmas
+pub mod DecimalLemmas
+pub mod FrontLemmas
+pub mod KeywordLemmas
+pub mod KindLemmas
+pub mod NumberLemmas
+pub mod PairLemmas
+pub mod PairSumLemmas
+pub mod PartLemmas
+pub mod PrintedLemmas
+pub mod SayingLemmas
+pub mod SizeLemmas
+pub mod SumLemmas
