@@ -1,7 +1,8 @@
 //! The update of all transitions of an element.
 
-ghost use Rattle.std.specs.Prelude.{◌≡◌, ◌++◌, ◌⊎◌, IfOk, IfSome, IsNone, OnOk, option_to_list};
+ghost use Rattle.std.specs.Prelude.{◌≡◌, ◌++◌, ◌⊎◌, IfOk, IfSome, IsNone, OnOk, option_copied, option_to_list};
 ghost use Rattle.std.specs.Bool.{OnTrue};
+ghost use Rattle.computed_style.specs.ByProperty.{kept_for};
 ghost use Rattle.style_data.specs.Kept.{IsCompletedFor, IsKeptFor};
 ghost use Rattle.style_data.specs.TransitionSets.{AreTransitions, ComesLast, kept_with};
 ghost use Rattle.style_data.specs.Transitions.{IsMoment};
@@ -10,7 +11,6 @@ ghost use Rattle.transition_update.specs.Updates.{cancelled_by, decision_for, st
 
 use crate::event::StyleChangeEvent;
 use computed_style::Style;
-use interpolation::same;
 use std::alloc::{AllocError, Global};
 use style_data::{Decision, Gone, Transitions};
 use transition_list::matching_or_initial;
@@ -80,15 +80,23 @@ fn update_property(
 fn is_idle(p: PropertyId, transitions: &Transitions, before: &Style, after: &Style) -> bool
     ensures { OnTrue result (IsIdle before.now after.now transitions.now p) }
 {
-    has_none(p, transitions) && same(before.value(p), after.value(p))
+    has_none(p, transitions) && before.is_same_at(after, p)
 }
 
 /// Whether no transition of the property runs, and none has completed.
 fn has_none(p: PropertyId, transitions: &Transitions) -> bool
     ensures { OnTrue result (HasNone transitions.now p) }
 {
-    transitions.is_empty()
-        || (transitions.running_of(p).is_none() && transitions.completed_of(p).is_none())
+    kept_in(transitions.running(), p).is_none() && kept_in(transitions.completed(), p).is_none()
+}
+
+/// What is kept of a property.
+fn kept_in<T>(kept: &[(PropertyId, T)], p: PropertyId) -> Option<&T>
+    ensures { option_copied result ≡ kept_for p kept.now }
+{
+    kept.iter()
+        .find(|item| item.0.number() == p.number())
+        .map(|item| &item.1)
 }
 
 fn push_some(items: &mut Vec<Gone>, item: Option<Gone>) -> Result<(), AllocError>
