@@ -4,7 +4,7 @@ use Rattle.std.specs.Prelude.{Contains, nat_eq, filter, replicate, Option, None,
 use Rattle.std.specs.Option.{option_map_or}
 use Rattle.std.proofs.lemmas.List.Elements.{All-contains}
 use Rattle.std.proofs.lemmas.List.Sums.{fold-append}
-use Rattle.computed_style.specs.Winners.{Declarations, ListWinners, all_lists, declarations, list_winner_of, list_winners_of, no_declarations, no_list_winners, no_winners, place_of, winners_of}
+use Rattle.computed_style.specs.Winners.{Declarations, ListWinners, declarations, list_winner_of, list_winners_of, no_declarations, no_list_winners, no_winners, place_of, winners_of}
 use Rattle.computed_style.specs.declared.winners.Winners.{Winners}
 use Rattle.computed_style.proofs.ByIndex.{same_by_list, same_by_property}
 use Rattle.computed_style.proofs.EveryProperty.{at_list, at_property}
@@ -12,6 +12,7 @@ use Rattle.computed_style.proofs.Tables.{number_small, place_small}
 use Rattle.doc_tree.specs.Element.{Element, element_of, inclusive_ancestors}
 use Rattle.sheet_types.specs.Sheets.{SheetRules}
 use Rattle.sheet_types.specs.declared.declaration.DeclarationParts.{DeclarationParts}
+use Rattle.value_types.specs.ListValues.{timing_lists}
 use Rattle.value_types.specs.Properties.{all_properties, number_of}
 use Rattle.value_types.specs.declared.list_value.ListName.{ListName}
 use Rattle.value_types.specs.declared.property.PropertyId.{PropertyId}
@@ -255,8 +256,8 @@ collected_winners find applying kept h =
     same_by_property d.properties (map (property_winners applying) all_properties) no_winners whole.count refl
     (λ p. same_winners (winners_of d p) (property_winners applying p) (collected_property find applying kept p true h) (collected_property find applying kept p false h)
     ∙ sym (at_property (property_winners applying) no_winners p)) in
-    let lists : d.lists ≡ map (list_winners applying) all_lists =
-    same_by_list d.lists (map (list_winners applying) all_lists) no_list_winners whole.list_count refl
+    let lists : d.lists ≡ map (list_winners applying) timing_lists =
+    same_by_list d.lists (map (list_winners applying) timing_lists) no_list_winners whole.list_count refl
     (λ name. same_list_winners (list_winners_of d name) (list_winners applying name) (collected_list find applying kept name true h) (collected_list find applying kept name false h)
     ∙ sym (at_list (list_winners applying) no_list_winners name)) in
     ap (λ x. declarations x d.lists) properties ∙ ap (declarations (map (property_winners applying) all_properties)) lists

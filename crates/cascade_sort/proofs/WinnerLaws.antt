@@ -2,7 +2,7 @@
 use Rattle.std.proofs.Common.{◌≡◌, ℕ, ◌+◌, ◌<◌, Bool, true, false, List, [], map, refl, ap, sym, ◌∙◌, subst, arith}
 use Rattle.std.specs.Prelude.{All, Contains, filter, Option, None, Some, option_map}
 use Rattle.std.proofs.lemmas.List.Elements.{All-contains, All-contains_itself, All-weaker}
-use Rattle.computed_style.specs.Winners.{Declarations, all_lists, declarations, list_winner_of, list_winners_of, no_list_winners, no_winners, place_of, winners_of}
+use Rattle.computed_style.specs.Winners.{Declarations, declarations, list_winner_of, list_winners_of, no_list_winners, no_winners, place_of, winners_of}
 use Rattle.computed_style.proofs.ByIndex.{same_by_list, same_by_property}
 use Rattle.computed_style.proofs.EveryProperty.{at_list, at_property}
 use Rattle.computed_style.proofs.Tables.{number_small, place_small, same_list, same_property}
@@ -11,6 +11,7 @@ use Rattle.shorthand_text.specs.declared.known_name.KnownName.{KnownName}
 use Rattle.shorthand_text.specs.declared.known_name.KnownName.TheVariants as known
 use Rattle.shorthand_text.specs.declared.longhand.Longhand.{Longhand}
 use Rattle.shorthand_text.specs.declared.longhand.Longhand.TheVariants as given
+use Rattle.value_types.specs.ListValues.{timing_lists}
 use Rattle.value_types.specs.Properties.{all_properties, number_of}
 use Rattle.value_types.specs.declared.declared.Declared.{Declared}
 use Rattle.value_types.specs.declared.list_value.ListName.{ListName}
@@ -194,10 +195,10 @@ same_of_all xs ys each each_list =
     let properties : map (property_winners xs) all_properties ≡ map (property_winners ys) all_properties =
     same_by_property (map (property_winners xs) all_properties) (map (property_winners ys) all_properties) no_winners refl refl
     (λ p. same_winners (winners_of (all_winners xs) p) (winners_of (all_winners ys) p) (each p true) (each p false)) in
-    let lists : map (list_winners xs) all_lists ≡ map (list_winners ys) all_lists =
-    same_by_list (map (list_winners xs) all_lists) (map (list_winners ys) all_lists) no_list_winners refl refl
+    let lists : map (list_winners xs) timing_lists ≡ map (list_winners ys) timing_lists =
+    same_by_list (map (list_winners xs) timing_lists) (map (list_winners ys) timing_lists) no_list_winners refl refl
     (λ name. same_list_winners (list_winners_of (all_winners xs) name) (list_winners_of (all_winners ys) name) (each_list name true) (each_list name false)) in
-    ap (λ x. declarations x (map (list_winners xs) all_lists)) properties ∙ ap (declarations (map (property_winners ys) all_properties)) lists
+    ap (λ x. declarations x (map (list_winners xs) timing_lists)) properties ∙ ap (declarations (map (property_winners ys) all_properties)) lists
 
 -- ---- any order
 

@@ -1,6 +1,6 @@
 -- The winners among the declarations that apply to an element (CSS Cascade 5, section 6).
 use Rattle.std.specs.Prelude.{◌≡◌, ◌↔◌, ℕ, ◌+◌, ◌==◌, Bool, true, false, if◌then◌else◌, List, filter, map, All, Contains, IsTrue, Option, None, Some, option_map}
-use Rattle.computed_style.specs.Winners.{Declarations, ListWinners, all_lists, declarations, list_winner_of, place_of, winners_of}
+use Rattle.computed_style.specs.Winners.{Declarations, ListWinners, declarations, list_winner_of, place_of, winners_of}
 use Rattle.computed_style.specs.declared.winners.Winners.{Winners}
 use Rattle.doc_tree.specs.Element.{Element}
 use Rattle.sheet_types.specs.Sheets.{SheetRules}
@@ -9,6 +9,7 @@ use Rattle.shorthand_text.specs.declared.known_name.KnownName.{KnownName}
 use Rattle.shorthand_text.specs.declared.known_name.KnownName.TheVariants as known
 use Rattle.shorthand_text.specs.declared.longhand.Longhand.{Longhand}
 use Rattle.shorthand_text.specs.declared.longhand.Longhand.TheVariants as given
+use Rattle.value_types.specs.ListValues.{timing_lists}
 use Rattle.value_types.specs.Properties.{all_properties, number_of}
 use Rattle.value_types.specs.declared.declared.Declared.{Declared}
 use Rattle.value_types.specs.declared.list_value.ListName.{ListName}
@@ -116,7 +117,7 @@ list_winners xs name = record {
 
 -- the winners of each property and of each timing list
 unfoldable pub all_winners : List Applied → Declarations
-all_winners xs = declarations (map (property_winners xs) all_properties) (map (list_winners xs) all_lists)
+all_winners xs = declarations (map (property_winners xs) all_properties) (map (list_winners xs) timing_lists)
 
 -- the winning declarations of element n
 abbrev pub declared_of : List (Option SheetRules) → List Element → ℕ → Declarations

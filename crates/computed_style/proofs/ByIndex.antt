@@ -4,13 +4,14 @@ use Rattle.std.specs.Prelude.{List, [], ◌∷◌, length, set, slice_index_or}
 use Rattle.std.proofs.lemmas.List.{get_or-set_other, get_or-set_same}
 use borrow.Author.Count.{below_more}
 use Rattle.std.proofs.lemmas.Option.{slice_get-get_or}
+use Rattle.value_types.specs.ListValues.{timing_lists}
 use Rattle.value_types.proofs.PropertyLemmas.{counts_up, number_at}
 use Rattle.value_types.specs.Properties.{all_properties, number_of}
 use Rattle.value_types.specs.declared.list_value.ListName.{ListName}
 use Rattle.value_types.specs.declared.list_value.ListName.TheVariants.{TransitionProperty}
 use Rattle.value_types.specs.declared.property.PropertyId.{PropertyId}
 use Rattle.value_types.specs.declared.property.PropertyId.TheVariants.{BackgroundColor}
-use Rattle.computed_style.specs.Winners.{all_lists, place_of}
+use Rattle.computed_style.specs.Winners.{place_of}
 use Rattle.computed_style.proofs.Tables.{number_small, place_small, same_list, same_property}
 
 -- lists of one length with the same items are the same
@@ -49,7 +50,7 @@ same_by_property xs ys d cx cy each =
 
 -- the timing list of a place
 unfoldable pub list_at : ℕ → ListName
-list_at i = slice_index_or all_lists i TransitionProperty
+list_at i = slice_index_or timing_lists i TransitionProperty
 
 pub place-list_at : (i : ℕ) → i < 12 → place_of (list_at i) ≡ i
 unfolding list_at

@@ -4,7 +4,7 @@ use Rattle.std.specs.Prelude.{◌≢◌, nat_eq, Bool, List, ◌∷◌, [], All,
 use Rattle.std.specs.Bool.{OnFalse, OnTrue}
 use Rattle.std.proofs.lemmas.Bool.{cases_eq}
 use Rattle.std.proofs.lemmas.List.{get_or-set_other, get_or-set_same, length-set}
-use Rattle.value_types.specs.ListValues.{IsListValueFor}
+use Rattle.value_types.specs.ListValues.{IsListValueFor, timing_lists}
 use Rattle.value_types.specs.Properties.{all_properties, number_of}
 use Rattle.value_types.specs.Validity.{IsDeclaredFor}
 use Rattle.value_types.specs.declared.declared.Declared.{Declared}
@@ -13,7 +13,7 @@ use Rattle.value_types.specs.declared.list_value.ListValue.{ListValue}
 use Rattle.value_types.specs.declared.property.PropertyId.{PropertyId}
 use Rattle.computed_style.specs.ByProperty.{kept_for}
 use Rattle.computed_style.specs.KeptDeclarations.{AreKept, ListDeclarations, PropertyDeclarations, TellsDeclared, declarations_in, list_winners_in, winners_in}
-use Rattle.computed_style.specs.Winners.{AreDeclarations, all_lists, declarations, place_of, kept_for_list, list_winner_of, list_winners_of, no_declarations, no_list_winners, no_winners, winners_of, with_declaration, with_list_declaration}
+use Rattle.computed_style.specs.Winners.{AreDeclarations, declarations, place_of, kept_for_list, list_winner_of, list_winners_of, no_declarations, no_list_winners, no_winners, winners_of, with_declaration, with_list_declaration}
 use Rattle.computed_style.proofs.EveryProperty.{at_list, at_property, put_list, put_property}
 use Rattle.computed_style.proofs.Lookups.{found_has}
 use Rattle.computed_style.proofs.Tables.{number_small, same_list}
@@ -35,13 +35,13 @@ pub put_important : (i n : PropertyDeclarations) (il nl : ListDeclarations) (p :
     → declarations_in ((p, v) ∷ i) n il nl ≡ with_declaration (declarations_in i n il nl) p true v
 unfolding declarations_in
 put_important i n il nl p v =
-    rw (at_property (winners_in i n) no_winners p) (ap (λ t. declarations t (map (list_winners_in il nl) all_lists)) (put_property (λ o q. record { important = o; normal = kept_for q n }) i v p))
+    rw (at_property (winners_in i n) no_winners p) (ap (λ t. declarations t (map (list_winners_in il nl) timing_lists)) (put_property (λ o q. record { important = o; normal = kept_for q n }) i v p))
 
 pub put_normal : (i n : PropertyDeclarations) (il nl : ListDeclarations) (p : PropertyId) (v : Declared)
     → declarations_in i ((p, v) ∷ n) il nl ≡ with_declaration (declarations_in i n il nl) p false v
 unfolding declarations_in
 put_normal i n il nl p v =
-    rw (at_property (winners_in i n) no_winners p) (ap (λ t. declarations t (map (list_winners_in il nl) all_lists)) (put_property (λ o q. record { important = kept_for q i; normal = o }) n v p))
+    rw (at_property (winners_in i n) no_winners p) (ap (λ t. declarations t (map (list_winners_in il nl) timing_lists)) (put_property (λ o q. record { important = kept_for q i; normal = o }) n v p))
 
 pub put_important_list : (i n : PropertyDeclarations) (il nl : ListDeclarations) (name : ListName) (v : ListValue)
     → declarations_in i n ((name, v) ∷ il) nl ≡ with_list_declaration (declarations_in i n il nl) name true v

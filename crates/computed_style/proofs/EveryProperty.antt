@@ -1,13 +1,14 @@
 -- Tables over every property and every timing list.
 use Rattle.std.proofs.Common.{◌≡◌, refl}
 use Rattle.std.specs.Prelude.{List, ◌∷◌, map, set, slice_index_or, Option, Some}
+use Rattle.value_types.specs.ListValues.{timing_lists}
 use Rattle.value_types.specs.Properties.{all_properties, number_of}
 use Rattle.value_types.specs.declared.list_value.ListName.{ListName}
 use Rattle.value_types.specs.declared.list_value.ListName.TheVariants.{TransitionProperty, TransitionDuration, TransitionDelay, TransitionEasing, AnimationName, AnimationDuration, AnimationDelay, AnimationEasing, AnimationCount, AnimationDirection, AnimationFill, AnimationPlayState}
 use Rattle.value_types.specs.declared.property.PropertyId.{PropertyId}
 use Rattle.value_types.specs.declared.property.PropertyId.TheVariants.{BackgroundColor, Bottom, Color, Display, FontSize, Height, Left, LetterSpacing, MarginBottom, MarginLeft, MarginRight, MarginTop, Opacity, PaddingBottom, PaddingLeft, PaddingRight, PaddingTop, Right, Rotate, Top, Translate, Visibility, Width, ZIndex}
 use Rattle.computed_style.specs.ByProperty.{kept_for}
-use Rattle.computed_style.specs.Winners.{all_lists, kept_for_list, place_of}
+use Rattle.computed_style.specs.Winners.{kept_for_list, place_of}
 
 -- a table at a property's number
 pub at_property : {X : Type 0} (f : PropertyId → X) (d : X) (p : PropertyId) → slice_index_or (map f all_properties) (number_of p) d ≡ f p
@@ -37,7 +38,7 @@ at_property f d Width = refl
 at_property f d ZIndex = refl
 
 -- a table at a timing list's place
-pub at_list : {X : Type 0} (f : ListName → X) (d : X) (name : ListName) → slice_index_or (map f all_lists) (place_of name) d ≡ f name
+pub at_list : {X : Type 0} (f : ListName → X) (d : X) (name : ListName) → slice_index_or (map f timing_lists) (place_of name) d ≡ f name
 at_list f d TransitionProperty = refl
 at_list f d TransitionDuration = refl
 at_list f d TransitionDelay = refl
@@ -81,7 +82,7 @@ put_property g kept v ZIndex = refl
 
 -- and so for timing lists
 pub put_list : {A X : Type 0} (g : Option A → ListName → X) (kept : List (ListName × A)) (v : A) (name : ListName)
-    → map (λ q. g (kept_for_list q ((name, v) ∷ kept)) q) all_lists ≡ set (map (λ q. g (kept_for_list q kept) q) all_lists) (place_of name) (g (Some v) name)
+    → map (λ q. g (kept_for_list q ((name, v) ∷ kept)) q) timing_lists ≡ set (map (λ q. g (kept_for_list q kept) q) timing_lists) (place_of name) (g (Some v) name)
 put_list g kept v TransitionProperty = refl
 put_list g kept v TransitionDuration = refl
 put_list g kept v TransitionDelay = refl

@@ -1,6 +1,6 @@
 -- Declarations as they are kept: what is declared alone.
 use Rattle.std.specs.Prelude.{◌≡◌, Bool, false, List, All, length, map, None, slice_index_or}
-use Rattle.value_types.specs.ListValues.{IsListValueFor}
+use Rattle.value_types.specs.ListValues.{IsListValueFor, timing_lists}
 use Rattle.value_types.specs.Properties.{all_properties, number_of}
 use Rattle.value_types.specs.Validity.{IsDeclaredFor}
 use Rattle.value_types.specs.declared.declared.Declared.{Declared}
@@ -8,7 +8,7 @@ use Rattle.value_types.specs.declared.list_value.ListName.{ListName}
 use Rattle.value_types.specs.declared.list_value.ListValue.{ListValue}
 use Rattle.value_types.specs.declared.property.PropertyId.{PropertyId}
 use Rattle.computed_style.specs.ByProperty.{kept_for}
-use Rattle.computed_style.specs.Winners.{Declarations, ListWinners, all_lists, declarations, kept_for_list}
+use Rattle.computed_style.specs.Winners.{Declarations, ListWinners, declarations, kept_for_list}
 use Rattle.computed_style.specs.declared.winners.Winners.{Winners}
 
 abbrev pub PropertyDeclarations : Type 0
@@ -28,7 +28,7 @@ list_winners_in important normal name = record { important = kept_for_list name 
 -- the winners of each property and of each timing list
 unfoldable pub declarations_in : PropertyDeclarations → PropertyDeclarations → ListDeclarations → ListDeclarations → Declarations
 declarations_in important normal important_lists normal_lists =
-    declarations (map (winners_in important normal) all_properties) (map (list_winners_in important_lists normal_lists) all_lists)
+    declarations (map (winners_in important normal) all_properties) (map (list_winners_in important_lists normal_lists) timing_lists)
 
 -- each declares its property
 abbrev pub AreDeclared : PropertyDeclarations → Type 0

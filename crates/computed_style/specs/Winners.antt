@@ -1,6 +1,6 @@
 -- The winning declarations of an element (CSS Cascade 5, section 6).
 use Rattle.std.specs.Prelude.{◌≡◌, ℕ, nat_eq, Bool, true, false, List, [], ◌∷◌, map, set, length, slice_index_or, find, IfSome, Option, None, Some, option_map, if◌then◌else◌}
-use Rattle.value_types.specs.ListValues.{IsListValueFor}
+use Rattle.value_types.specs.ListValues.{IsListValueFor, timing_lists}
 use Rattle.value_types.specs.Properties.{all_properties, number_of}
 use Rattle.value_types.specs.Validity.{IsDeclaredFor}
 use Rattle.value_types.specs.declared.declared.Declared.{Declared}
@@ -38,11 +38,6 @@ place_of list.AnimationDirection = 9
 place_of list.AnimationFill = 10
 place_of list.AnimationPlayState = 11
 
--- the timing lists, by place
-abbrev pub all_lists : List ListName
-all_lists =
-    list.TransitionProperty ∷ list.TransitionDuration ∷ list.TransitionDelay ∷ list.TransitionEasing ∷ list.AnimationName ∷ list.AnimationDuration ∷ list.AnimationDelay ∷ list.AnimationEasing ∷ list.AnimationCount ∷ list.AnimationDirection ∷ list.AnimationFill ∷ list.AnimationPlayState ∷ []
-
 -- no declaration wins
 abbrev pub no_winners : Winners
 no_winners = record { important = None; normal = None }
@@ -76,7 +71,7 @@ pub record AreDeclarations (d : Declarations) : Type 0 where
 
 -- nothing is declared
 abbrev pub no_declarations : Declarations
-no_declarations = declarations (map (λ p. no_winners) all_properties) (map (λ name. no_list_winners) all_lists)
+no_declarations = declarations (map (λ p. no_winners) all_properties) (map (λ name. no_list_winners) timing_lists)
 
 -- the winners with this one among the important or the normal ones
 abbrev pub with_winner : Winners → Bool → Declared → Winners

@@ -339,22 +339,6 @@ fn has_none<T>(list: &Vec<T>) -> bool
     list.is_empty()
 }
 
-/// The timing lists, by their places.
-const LISTS: [ListName; 12] = [
-    ListName::TransitionProperty,
-    ListName::TransitionDuration,
-    ListName::TransitionDelay,
-    ListName::TransitionEasing,
-    ListName::AnimationName,
-    ListName::AnimationDuration,
-    ListName::AnimationDelay,
-    ListName::AnimationEasing,
-    ListName::AnimationCount,
-    ListName::AnimationDirection,
-    ListName::AnimationFill,
-    ListName::AnimationPlayState,
-];
-
 impl Same for DeclaredSet {
     fn is_same(&self, other: &DeclaredSet) -> bool {
         self.is_kept_like(other)
@@ -383,7 +367,7 @@ fn have_same_winners(a: &DeclaredSet, b: &DeclaredSet, p: PropertyId) -> bool
 fn have_same_lists(a: &DeclaredSet, b: &DeclaredSet) -> bool
     ensures { IsTrue result ↔ (a.now.lists ≡ b.now.lists) }
 {
-    for name in &LISTS {
+    for name in &ListName::ALL {
         if !have_same_list(a, b, *name) {
             return false;
         }

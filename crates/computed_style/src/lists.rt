@@ -13,7 +13,8 @@ use crate::declared_set::Winning;
 use fix_num::{Fix, Micros};
 use std::alloc::{AllocError, Global};
 use timing_types::{
-    AnimationLists, Count, Direction, Easing, Fill, Items, Name, PlayState, copy_names,
+    AnimationLists, Count, Direction, Easing, Fill, Items, IterationLists, Name, PlayState,
+    PlaybackLists, copy_names,
 };
 use value_types::{ListName, ListValue, PropertyItem, Shared, TransitionLists};
 
@@ -48,43 +49,18 @@ pub(crate) fn animation_lists(
     let names = names(alloc, list_winner(d, ListName::AnimationName))?;
     let timing = timing_of(alloc, d)?;
     let playing = playing_of(alloc, d)?;
-    let lists = AnimationLists::new(
-        names,
-        timing.durations,
-        timing.delays,
-        timing.easings,
-        timing.counts,
-        playing.directions,
-        playing.fills,
-        playing.states,
-    );
+    let lists = AnimationLists::new(names, timing, playing);
     Ok(Some(Shared::new(alloc, lists)?))
 }
 
 /// When the iterations of animations begin, how long they last, how they run and how many there are.
-#[derive(Drop)]
-struct Timing {
-    durations: Items<Micros>,
-    delays: Items<Micros>,
-    easings: Items<Easing>,
-    counts: Items<Count>,
-}
-
-/// Which way they run, what is shown outside of them, and whether they run at all.
-#[derive(Drop)]
-struct Playing {
-    directions: Items<Direction>,
-    fills: Items<Fill>,
-    states: Items<PlayState>,
-}
-
-fn timing_of(alloc: Global, d: &Winning) -> Result<Timing, AllocError>
+fn timing_of(alloc: Global, d: &Winning) -> Result<IterationLists, AllocError>
     ensures durations { IfOk result (λ t. t.durations ≡ (animation_lists_of d.now).durations) }
     ensures delays { IfOk result (λ t. t.delays ≡ (animation_lists_of d.now).delays) }
     ensures easings { IfOk result (λ t. t.easings ≡ (animation_lists_of d.now).easings) }
     ensures counts { IfOk result (λ t. t.counts ≡ (animation_lists_of d.now).counts) }
 {
-    Ok(Timing {
+    Ok(IterationLists {
         durations: times(alloc, list_winner(d, ListName::AnimationDuration))?,
         delays: times(alloc, list_winner(d, ListName::AnimationDelay))?,
         easings: easings(alloc, list_winner(d, ListName::AnimationEasing))?,
@@ -92,12 +68,13 @@ fn timing_of(alloc: Global, d: &Winning) -> Result<Timing, AllocError>
     })
 }
 
-fn playing_of(alloc: Global, d: &Winning) -> Result<Playing, AllocError>
+/// Which way they run, what is shown outside of them, and whether they run at all.
+fn playing_of(alloc: Global, d: &Winning) -> Result<PlaybackLists, AllocError>
     ensures directions { IfOk result (λ p. p.directions ≡ (animation_lists_of d.now).directions) }
     ensures fills { IfOk result (λ p. p.fills ≡ (animation_lists_of d.now).fills) }
     ensures states { IfOk result (λ p. p.states ≡ (animation_lists_of d.now).states) }
 {
-    Ok(Playing {
+    Ok(PlaybackLists {
         directions: directions(alloc, list_winner(d, ListName::AnimationDirection))?,
         fills: fills(alloc, list_winner(d, ListName::AnimationFill))?,
         states: states(alloc, list_winner(d, ListName::AnimationPlayState))?,

@@ -13,32 +13,32 @@ use interpolation::same;
 use style_data::{Down, Entry, Inherited, Style};
 
 /// What the parent hands down of its before-change style; `None` of the root, and where it has none.
-pub(crate) fn before_parent(parent: Option<&Down>) -> Option<Inherited>
-    ensures { result ≡ before_parent (option_copied parent.entry) }
+pub(crate) fn before_parent(parent: Option<&Down>) -> Option<&Inherited>
+    ensures { option_copied result ≡ before_parent (option_copied parent.entry) }
 {
     match parent {
         None => None,
-        Some(down) => down.before,
+        Some(down) => down.before.as_ref(),
     }
 }
 
 /// What the parent hands down of its after-change style; `None` of the root.
-pub(crate) fn after_parent(parent: Option<&Down>) -> Option<Inherited>
-    ensures { result ≡ after_parent (option_copied parent.entry) }
+pub(crate) fn after_parent(parent: Option<&Down>) -> Option<&Inherited>
+    ensures { option_copied result ≡ after_parent (option_copied parent.entry) }
 {
     match parent {
         None => None,
-        Some(down) => Some(down.after),
+        Some(down) => Some(&down.after),
     }
 }
 
 /// What the parent hands down of its current style; `None` of the root.
-pub(crate) fn now_parent(parent: Option<&Down>) -> Option<Inherited>
-    ensures { result ≡ now_parent (option_copied parent.entry) }
+pub(crate) fn now_parent(parent: Option<&Down>) -> Option<&Inherited>
+    ensures { option_copied result ≡ now_parent (option_copied parent.entry) }
 {
     match parent {
         None => None,
-        Some(down) => Some(down.now),
+        Some(down) => Some(&down.now),
     }
 }
 

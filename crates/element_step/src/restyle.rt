@@ -90,7 +90,7 @@ fn restyle_rendered<A: Sampling, B: Sampling>(
     ensures { IfOk result (λ r. IsRestyled (element_update entry.now declared.now (option_copied parent.entry) (A.animated_value old.now) (B.animated_value new.now) animations.now root_size event) r) }
 {
     let above_after = after_parent(parent);
-    let after = after_style(alloc, declared, above_after.as_ref(), old)?;
+    let after = after_style(alloc, declared, above_after, old)?;
     let changes = change_transitions(alloc, entry, declared, &after, parent, old, event)?;
     let running = changes.transitions.running();
     let current = current_of(
@@ -98,8 +98,8 @@ fn restyle_rendered<A: Sampling, B: Sampling>(
     )?;
     let Current { now, settled } = current;
     let above_now = now_parent(parent);
-    let handed_after = handed_down(&after, above_after.as_ref());
-    let handed_now = handed_down(&now, above_now.as_ref());
+    let handed_after = handed_down(&after, above_after);
+    let handed_now = handed_down(&now, above_now);
     let ChangedTransitions {
         transitions,
         gone,
@@ -151,11 +151,11 @@ fn change_transitions<A: Sampling>(
         return Ok(ChangedTransitions {
             transitions: Transitions::new(alloc),
             gone: Vec::new(alloc),
-            before: Some(handed_down(after, above.as_ref())),
+            before: Some(handed_down(after, above)),
         });
     }
     let before = before_change(alloc, entry, declared, after, parent, old, event.time)?;
-    let handed = handed_down(&before, above.as_ref());
+    let handed = handed_down(&before, above);
     let updated = update_kept(alloc, entry, &before, after, event)?;
     Ok(ChangedTransitions {
         transitions: updated.transitions,
@@ -182,7 +182,7 @@ fn before_change<A: Sampling>(
         return with_running(alloc, after, entry.running(), t);
     }
     let above = before_parent(parent);
-    before_style(alloc, entry, t, above.as_ref(), old)
+    before_style(alloc, entry, t, above, old)
 }
 
 /// Whether the before-change style is the after-change style but for transitions: the declarations are the same, and
@@ -192,7 +192,7 @@ fn is_unchanged(entry: &Entry, declared: &DeclaredSet, parent: Option<&Down>) ->
 {
     let before = before_parent(parent);
     let after = after_parent(parent);
-    inherit_alike(before.as_ref(), after.as_ref()) && entry.declared().is_kept_like(declared)
+    inherit_alike(before, after) && entry.declared().is_kept_like(declared)
 }
 
 fn has_no_transition(entry: &Entry) -> bool
@@ -250,7 +250,7 @@ fn current_of<A: Sampling, B: Sampling>(
 {
     let above_after = after_parent(parent);
     let above_now = now_parent(parent);
-    if inherit_alike(above_now.as_ref(), above_after.as_ref())
+    if inherit_alike(above_now, above_after)
         && old.gives_nothing()
         && new.gives_nothing()
         && keep_font_size(running)
@@ -260,7 +260,7 @@ fn current_of<A: Sampling, B: Sampling>(
             settled: have_all_ended(running, animations, t),
         });
     }
-    let now = now_style(alloc, declared, running, t, above_now.as_ref(), new)?;
+    let now = now_style(alloc, declared, running, t, above_now, new)?;
     let settled = is_settled(running, animations, after, &now, t);
     Ok(Current { now, settled })
 }
@@ -288,11 +288,11 @@ fn restyle_unrendered<A: Sampling, B: Sampling>(
         declared,
         &[],
         event.time,
-        above.as_ref(),
+        above,
         &NoSampling,
     )?;
     let gone = cancel_kept(alloc, entry, event)?;
-    let handed = handed_down(&now, above.as_ref());
+    let handed = handed_down(&now, above);
     let before = before_handed(alloc, entry, parent, old, event)?;
     let down = hand_down(entry, root_size, before, handed, handed, false);
     Ok(Restyled {
@@ -332,6 +332,6 @@ fn before_handed<A: Sampling>(
         return Ok(None);
     }
     let above = before_parent(parent);
-    let before = before_style(alloc, entry, event.time, above.as_ref(), old)?;
-    Ok(Some(handed_down(&before, above.as_ref())))
+    let before = before_style(alloc, entry, event.time, above, old)?;
+    Ok(Some(handed_down(&before, above)))
 }

@@ -12,7 +12,7 @@ ghost use Rattle.element_step.specs.Works.{animation_lists_after, animations_bef
 use crate::rendering::is_rendered;
 use crate::update::{ElementUpdated, update_entry};
 use animation_names::{Paired, match_names, sampled};
-use cascade_sort::declared;
+use cascade_sort::declared_like;
 use doc_tree::Tree;
 use fix_num::{Fix, Micros};
 use pass_core::{Step, TreeWork};
@@ -182,7 +182,8 @@ fn update_within(
     ensures down { IfOk result (λ u. u.down ≡ handed_by work.now element entry.now (option_copied parent.entry)) }
 {
     let event = work.event_at(element);
-    let declared = declared(alloc, &work.sheets, &work.tree, element)?;
+    let last = entry.declared();
+    let declared = declared_like(alloc, &work.sheets, &work.tree, element, last)?;
     let rendered = is_rendered(&declared, parent);
     let old = sampled(alloc, entry.animations(), &work.old, work.time)?;
     let paired = update_animations(alloc, work, event, rendered, entry, &declared)?;

@@ -4,6 +4,7 @@ use Rattle.std.specs.Prelude.{option_map}
 use Rattle.std.specs.List.{find}
 use Rattle.std.specs.Str.{str_to_ascii_lowercase, str_eq_ignore_ascii_case, bytes_eq}
 use Rattle.std.proofs.lemmas.Slice.Eq.{bytes_eq-Decides}
+use Rattle.value_types.specs.ListValues.{timing_lists}
 use Rattle.value_types.specs.Properties.{all_properties, is_named, name_of, property_named}
 use Rattle.value_types.specs.declared.property.PropertyId.{PropertyId}
 use Rattle.value_types.specs.declared.property.PropertyId.TheVariants as property
@@ -13,7 +14,7 @@ use Rattle.value_types.specs.declared.shorthand.Shorthand.{Shorthand}
 use Rattle.value_types.specs.declared.shorthand.Shorthand.TheVariants as short
 use Rattle.value_types.proofs.PropertyLemmas.{find_passes, lowercase-name_of}
 use Rattle.shorthand_text.specs.Components.{first_some}
-use Rattle.shorthand_text.specs.KnownNames.{timing_lists, all_shorthands, is_text_of, known_name, name_of_list, name_of_shorthand, text_of_name}
+use Rattle.shorthand_text.specs.KnownNames.{all_shorthands, is_text_of, known_name, name_of_list, name_of_shorthand, text_of_name}
 use Rattle.shorthand_text.specs.declared.known_name.KnownName.{KnownName}
 use Rattle.shorthand_text.specs.declared.known_name.KnownName.TheVariants as known
 

@@ -1,6 +1,7 @@
 -- The names that a declaration may have: properties, timing lists, and the shorthands of either.
 use Rattle.std.specs.Prelude.{ℕ, Bool, List, [], ◌∷◌, codes, find, Option, option_map}
 use Rattle.std.specs.Str.{str_eq_ignore_ascii_case}
+use Rattle.value_types.specs.ListValues.{timing_lists}
 use Rattle.value_types.specs.Properties.{name_of, property_named}
 use Rattle.value_types.specs.declared.list_value.ListName.{ListName}
 use Rattle.value_types.specs.declared.list_value.ListName.TheVariants as list
@@ -40,13 +41,6 @@ text_of_name (known.List n) = name_of_list n
 text_of_name (known.Short s) = name_of_shorthand s
 text_of_name known.Transition = codes "transition"
 text_of_name known.Animation = codes "animation"
-
--- the timing lists, those of transitions first
-abbrev pub timing_lists : List ListName
-timing_lists =
-    list.TransitionProperty ∷ list.TransitionDuration ∷ list.TransitionDelay ∷ list.TransitionEasing
-    ∷ list.AnimationName ∷ list.AnimationDuration ∷ list.AnimationDelay ∷ list.AnimationEasing
-    ∷ list.AnimationCount ∷ list.AnimationDirection ∷ list.AnimationFill ∷ list.AnimationPlayState ∷ []
 
 -- the shorthands
 abbrev pub all_shorthands : List KnownName

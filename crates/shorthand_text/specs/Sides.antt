@@ -3,6 +3,7 @@ use Rattle.std.specs.Prelude.{nat_lt, if◌then◌else◌, List, [], ◌∷◌, 
 use Rattle.token_parts.specs.Parts.{TokenPart}
 use Rattle.token_parts.specs.declared.fault.ValueFault.{ValueFault}
 use Rattle.token_parts.specs.declared.fault.ValueFault.TheVariants.{Unsupported}
+use Rattle.value_types.specs.ListValues.{timing_lists}
 use Rattle.value_types.specs.Shorthands.{longhands_of}
 use Rattle.value_types.specs.Table.{is_inherited}
 use Rattle.value_types.specs.declared.declared.Declared.{Declared}
@@ -15,7 +16,6 @@ use Rattle.value_types.specs.declared.shorthand.Shorthand.TheVariants as short
 use Rattle.value_text.specs.Reading.{or_unsupported, value_in}
 use Rattle.value_text.specs.Spelling.{cascade_keyword, declared_by}
 use Rattle.value_text.specs.declared.cascade.Keyword.{Keyword}
-use Rattle.shorthand_text.specs.KnownNames.{timing_lists}
 use Rattle.shorthand_text.specs.Outcomes.{all_given, outcome_map, outcome_then}
 use Rattle.shorthand_text.specs.declared.longhand.Longhand.{Longhand}
 use Rattle.shorthand_text.specs.declared.longhand.Longhand.TheVariants as given

@@ -15,22 +15,6 @@ pub enum KnownName {
     Animation,
 }
 
-/// The timing lists, those of transitions first.
-pub const ALL_LISTS: [ListName; 12] = [
-    ListName::TransitionProperty,
-    ListName::TransitionDuration,
-    ListName::TransitionDelay,
-    ListName::TransitionEasing,
-    ListName::AnimationName,
-    ListName::AnimationDuration,
-    ListName::AnimationDelay,
-    ListName::AnimationEasing,
-    ListName::AnimationCount,
-    ListName::AnimationDirection,
-    ListName::AnimationFill,
-    ListName::AnimationPlayState,
-];
-
 /// The lists of `transition`.
 pub(crate) const TRANSITION_LISTS: [ListName; 4] = [
     ListName::TransitionProperty,

@@ -16,7 +16,7 @@ mod shorthand;
 mod sides;
 mod transition;
 
-pub use known_name::{ALL_LISTS, KnownName, list_name, shorthand_name};
+pub use known_name::{KnownName, list_name, shorthand_name};
 pub use laws::{known_names_read_back, lists_are_of_one_length, longhands_in_order};
 pub use longhand::Longhand;
 pub use reader::{name_of, read_longhands};

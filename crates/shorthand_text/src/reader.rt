@@ -1,14 +1,15 @@
 //! The reader of a declaration's value.
+ghost use Rattle.value_types.specs.ListValues.{timing_lists};
 ghost use Rattle.std.specs.Prelude.{◌≡◌, All, IfOk, find, map};
 ghost use Rattle.std.specs.Str.{str_eq_ignore_ascii_case};
 ghost use Rattle.css_token.specs.TokenLists.{LiesWithin};
 ghost use Rattle.token_parts.specs.Parts.{token_part, token_parts_of};
 ghost use Rattle.shorthand_text.specs.Declaring.{Reads, declared_of};
-ghost use Rattle.shorthand_text.specs.KnownNames.{timing_lists, all_shorthands, is_text_of, known_name, name_of_list};
+ghost use Rattle.shorthand_text.specs.KnownNames.{all_shorthands, is_text_of, known_name, name_of_list};
 ghost use Rattle.shorthand_text.specs.Longhands.{IsLonghand};
 
 use crate::animation::animation_lists;
-use crate::known_name::{ALL_LISTS, ALL_SHORTHANDS, KnownName, list_name};
+use crate::known_name::{ALL_SHORTHANDS, KnownName, list_name};
 use crate::longhand::{Longhand, one};
 use crate::shorthand::shorthand_longhands;
 use crate::transition::transition_lists;
@@ -36,7 +37,10 @@ pub fn name_of(text: &[u8]) -> Option<KnownName>
 fn list_of(text: &[u8]) -> Option<ListName>
     ensures { result ≡ find (λ n. str_eq_ignore_ascii_case text.now (name_of_list n)) timing_lists }
 {
-    ALL_LISTS.iter().copied().find(|name| text.eq_ignore_ascii_case(list_name(*name).as_bytes()))
+    ListName::ALL
+        .iter()
+        .copied()
+        .find(|name| text.eq_ignore_ascii_case(list_name(*name).as_bytes()))
 }
 
 fn shorthand_of(text: &[u8]) -> Option<KnownName>

@@ -6,7 +6,6 @@ ghost use Rattle.shorthand_text.specs.Declaring.{Reads};
 ghost use Rattle.shorthand_text.specs.Outcomes.{all_given};
 ghost use Rattle.shorthand_text.specs.Sides.{initial_lists, keyword_in_all, lists_in, property_by, shorthand_in, value_in_all};
 
-use crate::known_name::ALL_LISTS;
 use crate::longhand::{Longhand, one};
 use crate::sides::box_longhands;
 use std::alloc::{AllocError, Global};
@@ -70,7 +69,7 @@ fn lists_in(s: Shorthand) -> &'static [ListName]
     ensures { result.now ≡ lists_in s }
 {
     match s {
-        Shorthand::All => &ALL_LISTS,
+        Shorthand::All => &ListName::ALL,
         Shorthand::Background | Shorthand::Inset | Shorthand::Margin | Shorthand::Padding => &[],
     }
 }

@@ -6,12 +6,11 @@ ghost use Rattle.style_data.specs.TransitionSets.{AreTransitions, with_seen};
 
 use crate::animation::Animation;
 use crate::gone::Gone;
-use crate::same::are_same;
 use crate::transition::Phase;
 use crate::transitions::Transitions;
 use std::alloc::{AllocError, Global};
 use std::marker::Model;
-use timing_types::Same;
+use timing_types::{Same, are_same};
 
 /// The transitions and animations of an element, the animations ascending by their places, and the cancelled
 /// ones of both, in the order of their cancellation. Contracts see them as these lists.

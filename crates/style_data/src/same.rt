@@ -105,21 +105,6 @@ impl Same for Animation {
     }
 }
 
-/// Whether the lists are the same, item by item.
-pub(crate) fn are_same<T: Same>(xs: &[T], ys: &[T]) -> bool
-    ensures { IsTrue result ↔ (xs.now ≡ ys.now) }
-{
-    if xs.len() != ys.len() {
-        return false;
-    }
-    for (i, x) in xs.iter().enumerate() {
-        if !x.is_same(&ys[i]) {
-            return false;
-        }
-    }
-    true
-}
-
 /// Whether the lists of properties have the same of the same properties.
 pub(crate) fn have_same<T: Same>(xs: &[(PropertyId, T)], ys: &[(PropertyId, T)]) -> bool
     ensures { IsTrue result ↔ (xs.now ≡ ys.now) }

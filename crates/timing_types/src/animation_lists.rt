@@ -20,25 +20,25 @@ use std::marker::Model;
 #[derive(Drop)]
 pub struct AnimationLists {
     names: Items<Option<Name>>,
-    timing: Timing,
-    playing: Playing,
+    timing: IterationLists,
+    playing: PlaybackLists,
 }
 
-/// When the iterations begin, how long they last, how they run and how many there are.
+/// The lists of when iterations begin, how long they last, how they run and how many there are.
 #[derive(Drop)]
-struct Timing {
-    durations: Items<Micros>,
-    delays: Items<Micros>,
-    easings: Items<Easing>,
-    counts: Items<Count>,
+pub struct IterationLists {
+    pub durations: Items<Micros>,
+    pub delays: Items<Micros>,
+    pub easings: Items<Easing>,
+    pub counts: Items<Count>,
 }
 
-/// Which way they run, what is shown outside of them, and whether they run at all.
+/// The lists of which way they run, what is shown outside of them, and whether they run at all.
 #[derive(Drop)]
-struct Playing {
-    directions: Items<Direction>,
-    fills: Items<Fill>,
-    states: Items<PlayState>,
+pub struct PlaybackLists {
+    pub directions: Items<Direction>,
+    pub fills: Items<Fill>,
+    pub states: Items<PlayState>,
 }
 
 impl Model for AnimationLists {
@@ -53,11 +53,11 @@ impl Model for AnimationLists {
         l.timing.counts l.playing.directions l.playing.fills l.playing.states) };
 }
 
-impl Timing {
-    fn initial(alloc: Global) -> Result<Timing, AllocError>
+impl IterationLists {
+    fn initial(alloc: Global) -> Result<IterationLists, AllocError>
         ensures { IfOk result (λ t. (t.durations ≡ no_time ∷ []) × (t.delays ≡ no_time ∷ []) × (t.easings ≡ ease ∷ []) × (t.counts ≡ once ∷ [])) }
     {
-        Ok(Timing {
+        Ok(IterationLists {
             durations: Items::of(alloc, Micros(0))?,
             delays: Items::of(alloc, Micros(0))?,
             easings: Items::of(alloc, Easing::ease())?,
@@ -65,10 +65,10 @@ impl Timing {
         })
     }
 
-    fn copy(&self, alloc: Global) -> Result<Timing, AllocError>
+    fn copy(&self, alloc: Global) -> Result<IterationLists, AllocError>
         ensures { IfOk result (λ copy. copy ≡ self.now) }
     {
-        Ok(Timing {
+        Ok(IterationLists {
             durations: self.durations.copy(alloc)?,
             delays: self.delays.copy(alloc)?,
             easings: self.easings.copy(alloc)?,
@@ -76,7 +76,7 @@ impl Timing {
         })
     }
 
-    fn is_same(&self, other: &Timing) -> bool
+    fn is_same(&self, other: &IterationLists) -> bool
         ensures { IsTrue result ↔ (self.now ≡ other.now) }
     {
         self.durations.is_same(&other.durations)
@@ -86,28 +86,28 @@ impl Timing {
     }
 }
 
-impl Playing {
-    fn initial(alloc: Global) -> Result<Playing, AllocError>
+impl PlaybackLists {
+    fn initial(alloc: Global) -> Result<PlaybackLists, AllocError>
         ensures { IfOk result (λ p. (p.directions ≡ Direction.Normal ∷ []) × (p.fills ≡ Fill.Nothing ∷ []) × (p.states ≡ PlayState.Running ∷ [])) }
     {
-        Ok(Playing {
+        Ok(PlaybackLists {
             directions: Items::of(alloc, Direction::Normal)?,
             fills: Items::of(alloc, Fill::Nothing)?,
             states: Items::of(alloc, PlayState::Running)?,
         })
     }
 
-    fn copy(&self, alloc: Global) -> Result<Playing, AllocError>
+    fn copy(&self, alloc: Global) -> Result<PlaybackLists, AllocError>
         ensures { IfOk result (λ copy. copy ≡ self.now) }
     {
-        Ok(Playing {
+        Ok(PlaybackLists {
             directions: self.directions.copy(alloc)?,
             fills: self.fills.copy(alloc)?,
             states: self.states.copy(alloc)?,
         })
     }
 
-    fn is_same(&self, other: &Playing) -> bool
+    fn is_same(&self, other: &PlaybackLists) -> bool
         ensures { IsTrue result ↔ (self.now ≡ other.now) }
     {
         self.directions.is_same(&other.directions)
@@ -120,37 +120,23 @@ impl AnimationLists {
     /// These lists. Takes no memory.
     pub fn new(
         names: Items<Option<Name>>,
-        durations: Items<Micros>,
-        delays: Items<Micros>,
-        easings: Items<Easing>,
-        counts: Items<Count>,
-        directions: Items<Direction>,
-        fills: Items<Fill>,
-        states: Items<PlayState>,
+        timing: IterationLists,
+        playing: PlaybackLists,
     ) -> Self
         requires names { IsListOf IsNameItem names }
-        requires durations { IsListOf IsDuration durations }
-        requires delays { IsListOf IsDelay delays }
-        requires easings { IsListOf IsEasing easings }
-        requires counts { IsListOf IsCount counts }
-        requires directions { IsListOf IsAny directions }
-        requires fills { IsListOf IsAny fills }
-        requires states { IsListOf IsAny states }
-        ensures { result ≡ animation_values names durations delays easings counts directions fills states }
+        requires durations { IsListOf IsDuration timing.durations }
+        requires delays { IsListOf IsDelay timing.delays }
+        requires easings { IsListOf IsEasing timing.easings }
+        requires counts { IsListOf IsCount timing.counts }
+        requires directions { IsListOf IsAny playing.directions }
+        requires fills { IsListOf IsAny playing.fills }
+        requires states { IsListOf IsAny playing.states }
+        ensures { result ≡ animation_values names timing.durations timing.delays timing.easings timing.counts playing.directions playing.fills playing.states }
     {
         AnimationLists {
             names,
-            timing: Timing {
-                durations,
-                delays,
-                easings,
-                counts,
-            },
-            playing: Playing {
-                directions,
-                fills,
-                states,
-            },
+            timing,
+            playing,
         }
     }
 
@@ -160,8 +146,8 @@ impl AnimationLists {
     {
         Ok(AnimationLists {
             names: Items::of(alloc, None)?,
-            timing: Timing::initial(alloc)?,
-            playing: Playing::initial(alloc)?,
+            timing: IterationLists::initial(alloc)?,
+            playing: PlaybackLists::initial(alloc)?,
         })
     }
 

@@ -12,7 +12,7 @@ mod name;
 mod same;
 mod timing;
 
-pub use animation_lists::AnimationLists;
+pub use animation_lists::{AnimationLists, IterationLists, PlaybackLists};
 pub use easing::{Easing, Jump};
 pub use items::Items;
 pub use name::{Name, copy_names, is_animation_name, is_reserved};

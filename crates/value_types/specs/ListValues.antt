@@ -1,5 +1,5 @@
--- What a declaration gives a timing list.
-use Rattle.std.specs.Prelude.{◌≤◌, length, ⊤}
+-- The timing lists, and what a declaration gives one.
+use Rattle.std.specs.Prelude.{◌≤◌, List, [], ◌∷◌, length, ⊤}
 use Rattle.timing_types.specs.declared.limits.TheConstants.{MAX_ITEMS}
 use Rattle.value_types.specs.declared.list_value.ListName.{ListName}
 use Rattle.value_types.specs.declared.list_value.ListName.TheVariants as list
@@ -8,6 +8,13 @@ use Rattle.value_types.specs.declared.list_value.ListValue.TheVariants.{Inherit,
 use Rattle.timing_types.specs.Names.{IsNameItem}
 use Rattle.timing_types.specs.Timing.{IsAny, IsEasing, IsDuration, IsDelay, IsCount}
 use Rattle.timing_types.specs.TimingLists.{IsListOf}
+
+-- the timing lists, those of transitions first
+abbrev pub timing_lists : List ListName
+timing_lists =
+    list.TransitionProperty ∷ list.TransitionDuration ∷ list.TransitionDelay ∷ list.TransitionEasing
+    ∷ list.AnimationName ∷ list.AnimationDuration ∷ list.AnimationDelay ∷ list.AnimationEasing
+    ∷ list.AnimationCount ∷ list.AnimationDirection ∷ list.AnimationFill ∷ list.AnimationPlayState ∷ []
 
 -- the list may be declared so: as its initial value, or by items of the list's type within its bounds; no list is inherited
 abbrev pub IsListValueFor : ListName → ListValue → Type 0

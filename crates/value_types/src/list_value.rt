@@ -25,6 +25,24 @@ pub enum ListName {
     AnimationPlayState,
 }
 
+impl ListName {
+    /// The twelve lists, those of transitions first.
+    pub const ALL: [ListName; 12] = [
+        ListName::TransitionProperty,
+        ListName::TransitionDuration,
+        ListName::TransitionDelay,
+        ListName::TransitionEasing,
+        ListName::AnimationName,
+        ListName::AnimationDuration,
+        ListName::AnimationDelay,
+        ListName::AnimationEasing,
+        ListName::AnimationCount,
+        ListName::AnimationDirection,
+        ListName::AnimationFill,
+        ListName::AnimationPlayState,
+    ];
+}
+
 /// What a declaration gives a timing list: a keyword of the cascade, or its items. No list is inherited, so
 /// `Inherit` is a value of none.
 #[derive(Debug, Drop)]

@@ -13,7 +13,7 @@ use Rattle.element_step.specs.Updates.{after_parent, now_parent}
 pub returns-then-keep_font_size-clause-now : goal.returns-then-keep_font_size-clause-now
 returns-then-keep_font_size-clause-now g c =
     let inherits : now_parent (option_copied c.args.parent) ≡ after_parent (option_copied c.args.parent) =
-    sym (c.as_ref.ensures.value ∙ c.now_parent-above_now.ensures) ∙ c.if-inherit_alike.ensures ∙ c.as_ref-2.ensures.value ∙ c.after_parent-above_after.ensures in
+    sym c.now_parent-above_now.ensures ∙ c.if-inherit_alike.ensures ∙ c.after_parent-above_after.ensures in
     c.in_ok-with_running.ensures
     ∙ ap (λ (s : ComputedStyle). style_with s (transitioned_at c.args.running.now c.args.t.0)) c.requires.after
     ∙ current-over_after c.args.declared.now (g.A.Sampling.animated_value c.args.old.now) (g.B.Sampling.animated_value c.args.new.now) c.args.running.now

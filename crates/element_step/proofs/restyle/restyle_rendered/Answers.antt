@@ -20,7 +20,7 @@ returns g c =
     let above_now = c.now_parent-above_now.ensures in
     let change_to : ComputedStyle → StyleChange = λ after. style_change (before_change_style x.entry x.old x.event.time.0 (before_parent x.parent)) after x.event in
     let after_is : c.in_ok-after.after ≡ after_change_style x.declared x.old (after_parent x.parent) =
-    c.in_ok-after.ensures ∙ ap (after_change_style x.declared x.old) (c.as_ref.ensures.value ∙ above_after) in
+    c.in_ok-after.ensures ∙ ap (after_change_style x.declared x.old) above_after in
     let transitions_is : changes.transitions ≡ transitions_of x =
     c.in_ok-changes.ensures.transitions ∙ ap (λ a. transitions_from x.entry.rendered (change_to a) x.entry.effects.transitions) after_is
     ∙ sym (transitions_rendered x is) in
@@ -30,10 +30,10 @@ returns g c =
     ∙ ap (λ l. current_style x.declared x.new l x.event.time.0 (now_parent x.parent)) (c.running-running.ensures.value ∙ ap (λ ts. ts.running) transitions_is)
     ∙ sym (now_rendered x is) in
     let handed_now_is : c.handed_down-handed_now.result ≡ handed_now x =
-    c.handed_down-handed_now.ensures ∙ ap (λ p. handed_down p now) (c.as_ref-3.ensures.value ∙ above_now)
+    c.handed_down-handed_now.ensures ∙ ap (λ p. handed_down p now) above_now
     ∙ ap (handed_down (now_parent x.parent)) now_is in
     let handed_after_is : c.handed_down-handed_after.result ≡ handed_after x =
-    c.handed_down-handed_after.ensures ∙ ap (λ p. handed_down p c.in_ok-after.after) (c.as_ref-2.ensures.value ∙ above_after)
+    c.handed_down-handed_after.ensures ∙ ap (λ p. handed_down p c.in_ok-after.after) above_after
     ∙ ap (handed_down (after_parent x.parent)) after_is ∙ handed_after_rendered x is in
     record {
       now = now_is;

@@ -14,9 +14,9 @@ returns g c =
     let above = c.now_parent-above.ensures in
     let handed = c.handed_down-handed.result in
     let now_is : c.in_ok-now.now ≡ now_of x =
-    c.in_ok-now.ensures ∙ ap (current_style x.declared no_animations [] x.event.time.0) (c.as_ref.ensures.value ∙ above) ∙ sym (now_unrendered x isnt) in
+    c.in_ok-now.ensures ∙ ap (current_style x.declared no_animations [] x.event.time.0) above ∙ sym (now_unrendered x isnt) in
     let handed_is : handed ≡ handed_now x =
-    c.handed_down-handed.ensures ∙ ap (λ p. handed_down p c.in_ok-now.now) (c.as_ref-2.ensures.value ∙ above) ∙ ap (handed_down (now_parent x.parent)) now_is in
+    c.handed_down-handed.ensures ∙ ap (λ p. handed_down p c.in_ok-now.now) above ∙ ap (handed_down (now_parent x.parent)) now_is in
     record {
       now = now_is;
       transitions = c.new.ensures ∙ sym (transitions_unrendered x isnt);
