@@ -283,14 +283,7 @@ fn restyle_unrendered<A: Sampling, B: Sampling>(
     ensures { IfOk result (λ r. IsRestyled (element_update entry.now declared.now (option_copied parent.entry) (A.animated_value old.now) (B.animated_value new.now) animations.now root_size event) r) }
 {
     let above = now_parent(parent);
-    let now = now_style(
-        alloc,
-        declared,
-        &[],
-        event.time,
-        above,
-        &NoSampling,
-    )?;
+    let now = now_style(alloc, declared, &[], event.time, above, &NoSampling)?;
     let gone = cancel_kept(alloc, entry, event)?;
     let handed = handed_down(&now, above);
     let before = before_handed(alloc, entry, parent, old, event)?;

@@ -37,10 +37,9 @@ pub fn name_of(text: &[u8]) -> Option<KnownName>
 fn list_of(text: &[u8]) -> Option<ListName>
     ensures { result ≡ find (λ n. str_eq_ignore_ascii_case text.now (name_of_list n)) timing_lists }
 {
-    ListName::ALL
-        .iter()
-        .copied()
-        .find(|name| text.eq_ignore_ascii_case(list_name(*name).as_bytes()))
+    ListName::ALL.iter().copied().find(|name| text.eq_ignore_ascii_case(list_name(
+        *name,
+    ).as_bytes()))
 }
 
 fn shorthand_of(text: &[u8]) -> Option<KnownName>

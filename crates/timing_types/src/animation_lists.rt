@@ -118,11 +118,7 @@ impl PlaybackLists {
 
 impl AnimationLists {
     /// These lists. Takes no memory.
-    pub fn new(
-        names: Items<Option<Name>>,
-        timing: IterationLists,
-        playing: PlaybackLists,
-    ) -> Self
+    pub fn new(names: Items<Option<Name>>, timing: IterationLists, playing: PlaybackLists) -> Self
         requires names { IsListOf IsNameItem names }
         requires durations { IsListOf IsDuration timing.durations }
         requires delays { IsListOf IsDelay timing.delays }

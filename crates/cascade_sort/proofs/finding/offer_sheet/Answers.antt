@@ -1,14 +1,14 @@
-use Rattle.std.proofs.Common.{◌≡◌, ℕ, List, [], ◌∷◌, ◌++◌, map, ap, sym, ◌∙◌, refl}
-use Rattle.std.specs.Prelude.{flat_map, Option, None, Some}
+use Rattle.std.proofs.Common.{◌≡◌, ℕ, List, [], ◌∷◌, ◌++◌, map, ap, sym, ◌∙◌}
+use Rattle.std.specs.Prelude.{flat_map, Option}
 use Rattle.std.proofs.lemmas.List.{append-nil}
 use Rattle.std.proofs.lemmas.List.Concat.{flat_map-append}
 use Rattle.std.proofs.lemmas.List.Sums.{fold-append}
 use Rattle.doc_tree.specs.Element.{Element, inclusive_ancestors}
-use Rattle.sheet_types.specs.Candidates.{ByClass, ById, ByType, ForAny, SelectorKey, candidates_of}
+use Rattle.sheet_types.specs.Candidates.{ByClass, ById, ByType, ForAny, SelectorKey}
 use Rattle.sheet_types.specs.declared.rule.Rule.{Rule}
 use Rattle.sheet_types.specs.declared.selector_place.SelectorPlace.{SelectorPlace}
 use Rattle.cascade_sort.specs.Applying.{Applied}
-use Rattle.cascade_sort.specs.Finding.{Slots, found_at, found_in, found_under, id_keys, with_offer, with_offers}
+use Rattle.cascade_sort.specs.Finding.{Slots, found_at, found_under, id_keys, with_offer, with_offers}
 use Rattle.cascade_sort.specs.Winning.{slot_of}
 use Rattle.cascade_sort.proofs.finding.offer_sheet.Goals as goal
 use Rattle.cascade_sort.proofs.finding.offer_sheet.Goals.{in-Some, in_default}
