@@ -1,0 +1,23 @@
+//! What holds over every run of commands by the definitions alone.
+
+ghost use Rattle.std.specs.Prelude.{◌≤ℤ◌, List, map};
+ghost use Rattle.restyle.specs.Worlds.{new_world};
+ghost use Rattle.script_text.specs.declared.command.Command.{Command};
+ghost use Rattle.style_data.specs.declared.transition.Transition.{Transition};
+ghost use Rattle.ticker.specs.Courses.{NeverFall};
+ghost use Rattle.run_laws.specs.Runs.{HasRun, events_of_run};
+ghost use Rattle.run_laws.specs.TransitionCourses.{AreInTurn, IsCourse, times_of};
+ghost use Rattle.run_laws.specs.TransitionNames.{TransitionName, events_of_transition, told_of};
+
+/// Whatever commands come, what the frames tell of a transition is the course of one that ran: that it is created, that it starts and that it ends,
+/// each once at most, in this order, and nothing before what comes before it; or, if it is cancelled, one or both of the first two and then the cancel.
+pub fn courses_in_turn()
+    ensures course { (cs : List Command) (x : TransitionName) → IsCourse (HasRun new_world cs x) x.generation (told_of x (events_of_run new_world cs)) }
+    ensures kinds { (cs : List Command) (x : TransitionName) → AreInTurn (map (λ e. e.kind) (events_of_transition x (events_of_run new_world cs))) }
+{}
+
+/// And their scheduled event times never fall, where no transition that ran for the property of the element ends before it starts.
+pub fn scheduled_times_never_fall()
+    ensures { (cs : List Command) (x : TransitionName) → ((r : Transition) → HasRun new_world cs x r → r.start.0 ≤ℤ r.end.0)
+        → NeverFall (times_of (told_of x (events_of_run new_world cs))) }
+{}
