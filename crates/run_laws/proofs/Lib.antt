@@ -1,8 +1,12 @@
 pub mod CourseTimes
+pub mod DeclaredDurations
+pub mod Durations
 pub mod ElementNumbers
 pub mod Filtered
 pub mod FrameEvents
 pub mod InTurn
+pub mod OrderedRuns
+pub mod OrderedUpdates
 pub mod PropertyUpdates
 pub mod Runs
 pub mod SoFar

@@ -54,6 +54,22 @@ use Rattle.run_laws.proofs.FrameEvents.{departed_items, is_gone_of, tick_told, t
 use Rattle.run_laws.proofs.PropertyUpdates.{IsEntryUpdated, animation_item, cancelled_items, entry_updated}
 use Rattle.run_laws.proofs.SoFar.{HoldsOf, IsToldSoFar, cancelled_now, course_so_far, dropped, keeps, later, over, removed, swapped, ticked, updated, waits}
 
+-- ---- the entry of an element in another document
+
+fresh_in : (entries : List (ℕ × EntryParts)) (n : ℕ) (d : Document) → is_among n (numbers_of d.elements) ≡ false → entry_for (entries_of d entries) n ≡ fresh_entry
+fresh_in entries n d away =
+    ap (λ (es : List (ℕ × EntryParts)). entry_for es n) (by_numbers d.elements entries)
+    ∙ ap (λ o. unwrap_or o fresh_entry) (not_there n (numbers_of d.elements) entries away)
+
+pub entry_in : (entries : List (ℕ × EntryParts)) (n : ℕ) (d : Document)
+    → (entry_for (entries_of d entries) n ≡ entry_for entries n) ⊎ (entry_for (entries_of d entries) n ≡ fresh_entry)
+entry_in entries n d = elim (cases_Bool (is_among n (numbers_of d.elements))) [
+  | inl among ↦
+      inl (ap (λ (es : List (ℕ × EntryParts)). entry_for es n) (by_numbers d.elements entries)
+      ∙ ap (λ o. unwrap_or o fresh_entry) (there n (numbers_of d.elements) entries among))
+  | inr away ↦ inr (fresh_in entries n d away)
+]
+
 module _ (P : Transition → Type 0) (still : (r : Transition) (t : ℤ) → P r → P (seen_in t r)) (x : TransitionName) where
   abbrev n : ℕ
   n = x.element
@@ -162,23 +178,10 @@ module _ (P : Transition → Type 0) (still : (r : Transition) (t : ℤ) → P r
 
     -- ---- another document
 
-    fresh_in : (d : Document) → is_among n (numbers_of d.elements) ≡ false → entry_for (entries_of d w.entries) n ≡ fresh_entry
-    fresh_in d away =
-        ap (λ (es : List (ℕ × EntryParts)). entry_for es n) (by_numbers d.elements w.entries)
-        ∙ ap (λ o. unwrap_or o fresh_entry) (not_there n (numbers_of d.elements) w.entries away)
-
-    entry_in : (d : Document) → (entry_for (entries_of d w.entries) n ≡ e) ⊎ (entry_for (entries_of d w.entries) n ≡ fresh_entry)
-    entry_in d = elim (cases_Bool (is_among n (numbers_of d.elements))) [
-      | inl among ↦
-          inl (ap (λ (es : List (ℕ × EntryParts)). entry_for es n) (by_numbers d.elements w.entries)
-          ∙ ap (λ o. unwrap_or o fresh_entry) (there n (numbers_of d.elements) w.entries among))
-      | inr away ↦ inr (fresh_in d away)
-    ]
-
     -- the entry stays, or is a fresh one
     with_entry : (d : Document) (departed : List (ℕ × Gone)) → IsNumbered d → departed_items x departed ≡ departed_items x w.departed
         → IsRunSoFar told (record w { document = d; entries = entries_of d w.entries; departed = departed })
-    with_entry d departed numbered same = elim (entry_in d) [
+    with_entry d departed numbered same = elim (entry_in w.entries n d) [
       | inl stays ↦ record {
         numbered = numbered;
         order = order_of_entries d w.entries;
@@ -282,7 +285,7 @@ module _ (P : Transition → Type 0) (still : (r : Transition) (t : ℤ) → P r
         where
           fresh : entry_for (entries_of d' w.entries) n ≡ fresh_entry
           fresh =
-              fresh_in d' (away_where_passing (is_inclusive_descendant w.document.elements m) n w.document.elements
+              fresh_in w.entries n d' (away_where_passing (is_inclusive_descendant w.document.elements m) n w.document.elements
               (among_passing (is_inclusive_descendant w.document.elements m) n w.document.elements among))
 
           left : departed_items x departed' ++ [] ≡ left_of e w.departed ++ cancelled_now x t (run_of e)

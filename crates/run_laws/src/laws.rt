@@ -1,9 +1,8 @@
 //! What holds over every run of commands by the definitions alone.
 
-ghost use Rattle.std.specs.Prelude.{◌≤ℤ◌, List, map};
+ghost use Rattle.std.specs.Prelude.{List, map};
 ghost use Rattle.restyle.specs.Worlds.{new_world};
 ghost use Rattle.script_text.specs.declared.command.Command.{Command};
-ghost use Rattle.style_data.specs.declared.transition.Transition.{Transition};
 ghost use Rattle.ticker.specs.Courses.{NeverFall};
 ghost use Rattle.run_laws.specs.Runs.{HasRun, events_of_run};
 ghost use Rattle.run_laws.specs.TransitionCourses.{AreInTurn, IsCourse, times_of};
@@ -16,8 +15,11 @@ pub fn courses_in_turn()
     ensures kinds { (cs : List Command) (x : TransitionName) → AreInTurn (map (λ e. e.kind) (events_of_transition x (events_of_run new_world cs))) }
 {}
 
-/// And their scheduled event times never fall, where no transition that ran for the property of the element ends before it starts.
+/// And their scheduled event times never fall: no declaration gives a transition a negative duration, so none ends before it starts, and none is told
+/// before it has come.
 pub fn scheduled_times_never_fall()
-    ensures { (cs : List Command) (x : TransitionName) → ((r : Transition) → HasRun new_world cs x r → r.start.0 ≤ℤ r.end.0)
-        → NeverFall (times_of (told_of x (events_of_run new_world cs))) }
-{}
+    ensures { (cs : List Command) (x : TransitionName) → NeverFall (times_of (told_of x (events_of_run new_world cs))) }
+{
+    sheet_rules::sheet_reading_is_exact();
+    sheet_rules::style_reading_is_exact();
+}
