@@ -25,10 +25,10 @@ three_rise a b c ab ac bc zero (suc (suc zero)) d less short = ac
 three_rise a b c ab ac bc (suc zero) (suc (suc zero)) d less short = bc
 three_rise a b c ab ac bc i j d less short = absurd (omega (arith, less, short))
 
-by_max : (a b : ℤ) → a ≤ℤ int_max a b
+pub by_max : (a b : ℤ) → a ≤ℤ int_max a b
 by_max a b = omega (arith, ints, clamps)
 
-maxes : (a b c : ℤ) → b ≤ℤ c → int_max a b ≤ℤ int_max a c
+pub maxes : (a b c : ℤ) → b ≤ℤ c → int_max a b ≤ℤ int_max a c
 maxes a b c less = omega (arith, ints, clamps)
 
 max_within : (a b c : ℤ) → a ≤ℤ c → b ≤ℤ c → int_max a b ≤ℤ c

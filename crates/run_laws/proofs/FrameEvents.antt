@@ -87,10 +87,6 @@ module _ (x : TransitionName) where
   own_event s at o =
       ap (λ b. b && (is_of_property x.property s && nat_eq (generation_in at.class at.first at.second) x.generation)) (eq-eqb x.element x.element refl)
 
-  told_again : (n : ℕ) (s : Subject) (at : Standing) (os : List Occurrence) → map occurrence_told (map (told_event n s at) os) ≡ os
-  told_again n s at [] = refl
-  told_again n s at (o ∷ os) = ap (λ ps. o ∷ ps) (told_again n s at os)
-
   -- ---- those of another element
 
   others_cancel : (n : ℕ) (g : Gone) → nat_eq n x.element ≡ false → filter (is_event_of x) (cancel_events n g) ≡ []
@@ -120,27 +116,27 @@ module _ (x : TransitionName) where
   own_cancel g (Property p) o = own_event (Property p) (cancelled_standing (Property p) g) o
   own_cancel g (Animation name) o = own_event (Animation name) (cancelled_standing (Animation name) g) o
 
-  cancel_told : (g : Gone) (b : Bool) → is_gone_of g ≡ b → map occurrence_told (filter (is_event_of x) (cancel_events x.element g)) ≡ (if b then cancel_occurrences g else [])
-  cancel_told g true is =
-      ap (map occurrence_told) (all_mapped (is_event_of x) (told_event x.element g.subject (cancelled_standing g.subject g)) (cancel_occurrences g)
-      (λ o. own_cancel g g.subject o ∙ is))
-      ∙ told_again x.element g.subject (cancelled_standing g.subject g) (cancel_occurrences g)
-  cancel_told g false is =
-      ap (map occurrence_told) (none_mapped (is_event_of x) (told_event x.element g.subject (cancelled_standing g.subject g)) (cancel_occurrences g)
-      (λ o. own_cancel g g.subject o ∙ is))
+  own_cancels : (g : Gone) (b : Bool) → is_gone_of g ≡ b → filter (is_event_of x) (cancel_events x.element g) ≡ (if b then cancel_events x.element g else [])
+  own_cancels g true is =
+      all_mapped (is_event_of x) (told_event x.element g.subject (cancelled_standing g.subject g)) (cancel_occurrences g) (λ o. own_cancel g g.subject o ∙ is)
+  own_cancels g false is =
+      none_mapped (is_event_of x) (told_event x.element g.subject (cancelled_standing g.subject g)) (cancel_occurrences g) (λ o. own_cancel g g.subject o ∙ is)
 
-  gone_told : (gone : List Gone) → map occurrence_told (filter (is_event_of x) (flat_map (cancel_events x.element) gone)) ≡ told_gone (filter is_gone_of gone)
-  gone_told [] = refl
-  gone_told (g ∷ gone) =
-      ap (map occurrence_told) (filter-append (is_event_of x) (cancel_events x.element g) (flat_map (cancel_events x.element) gone))
-      ∙ map-append occurrence_told (filter (is_event_of x) (cancel_events x.element g)) (filter (is_event_of x) (flat_map (cancel_events x.element) gone))
-      ∙ ap (λ os. map occurrence_told (filter (is_event_of x) (cancel_events x.element g)) ++ os) (gone_told gone)
+  -- the events of cancelled items
+  abbrev pub gone_events : List Gone → List Event
+  gone_events gone = flat_map (cancel_events x.element) gone
+
+  own_gone : (gone : List Gone) → filter (is_event_of x) (gone_events gone) ≡ gone_events (filter is_gone_of gone)
+  own_gone [] = refl
+  own_gone (g ∷ gone) =
+      filter-append (is_event_of x) (cancel_events x.element g) (gone_events gone)
+      ∙ ap (λ es. filter (is_event_of x) (cancel_events x.element g) ++ es) (own_gone gone)
       ∙ go (is_gone_of g) refl
     where
       go : (b : Bool) → is_gone_of g ≡ b
-          → map occurrence_told (filter (is_event_of x) (cancel_events x.element g)) ++ told_gone (filter is_gone_of gone) ≡ told_gone (filter is_gone_of (g ∷ gone))
-      go true is = rw is (ap (λ os. os ++ told_gone (filter is_gone_of gone)) (cancel_told g true is))
-      go false is = rw is (ap (λ os. os ++ told_gone (filter is_gone_of gone)) (cancel_told g false is))
+          → filter (is_event_of x) (cancel_events x.element g) ++ gone_events (filter is_gone_of gone) ≡ gone_events (filter is_gone_of (g ∷ gone))
+      go true is = rw is (ap (λ es. es ++ gone_events (filter is_gone_of gone)) (own_cancels g true is))
+      go false is = rw is (ap (λ es. es ++ gone_events (filter is_gone_of gone)) (own_cancels g false is))
 
   own_running : (position : ℕ) (r : Transition) (o : Occurrence)
       → is_event_of x (told_event x.element (Property x.property) (transition_standing position x.property r) o) ≡ nat_eq r.generation x.generation
@@ -152,101 +148,143 @@ module _ (x : TransitionName) where
   other_running position y o differ =
       own_event (Property y.0) (transition_standing position y.0 y.1) o ∙ ap (λ b. b && nat_eq y.1.generation x.generation) differ
 
-  run_told : (position : ℕ) (t : ℤ) (r : Transition) (b : Bool) → nat_eq r.generation x.generation ≡ b
-      → map occurrence_told (filter (is_event_of x) (transition_events x.element position t (x.property, r)))
-      ≡ (if b then transition_occurrences r r.seen (phase_of r t) else [])
-  run_told position t r true is =
-      ap (map occurrence_told) (all_mapped (is_event_of x) (told_event x.element (Property x.property) (transition_standing position x.property r))
-      (transition_occurrences r r.seen (phase_of r t)) (λ o. own_running position r o ∙ is))
-      ∙ told_again x.element (Property x.property) (transition_standing position x.property r) (transition_occurrences r r.seen (phase_of r t))
-  run_told position t r false is =
-      ap (map occurrence_told) (none_mapped (is_event_of x) (told_event x.element (Property x.property) (transition_standing position x.property r))
-      (transition_occurrences r r.seen (phase_of r t)) (λ o. own_running position r o ∙ is))
+  own_transition : (position : ℕ) (t : ℤ) (r : Transition) (b : Bool) → nat_eq r.generation x.generation ≡ b
+      → filter (is_event_of x) (transition_events x.element position t (x.property, r)) ≡ (if b then transition_events x.element position t (x.property, r) else [])
+  own_transition position t r true is =
+      all_mapped (is_event_of x) (told_event x.element (Property x.property) (transition_standing position x.property r))
+      (transition_occurrences r r.seen (phase_of r t)) (λ o. own_running position r o ∙ is)
+  own_transition position t r false is =
+      none_mapped (is_event_of x) (told_event x.element (Property x.property) (transition_standing position x.property r))
+      (transition_occurrences r r.seen (phase_of r t)) (λ o. own_running position r o ∙ is)
 
-  running_told : (position : ℕ) (t : ℤ) (running : List (PropertyId × Transition)) → IsOnce x.property running
-      → map occurrence_told (filter (is_event_of x) (flat_map (transition_events x.element position t) running)) ≡ told_running t (kept_for x.property running)
-  running_told position t running once =
-      ap (map occurrence_told)
-      (flat_without (is_event_of x) (transition_events x.element position t) (is_for x.property) running (λ y differ.
+  -- the events of the running transition of the property, of an element at this position
+  abbrev pub running_events : ℕ → ℤ → Option Transition → List Event
+  running_events position t None = []
+  running_events position t (Some r) = if nat_eq r.generation x.generation then transition_events x.element position t (x.property, r) else []
+
+  all_running : (position : ℕ) (t : ℤ) (running : List (PropertyId × Transition)) → IsOnce x.property running
+      → filter (is_event_of x) (flat_map (transition_events x.element position t) running) ≡ running_events position t (kept_for x.property running)
+  all_running position t running once =
+      flat_without (is_event_of x) (transition_events x.element position t) (is_for x.property) running (λ y differ.
       none_mapped (is_event_of x) (told_event x.element (Property y.0) (transition_standing position y.0 y.1)) (transition_occurrences y.1 y.1.seen (phase_of y.1 t))
       (λ o. other_running position y o differ))
-      ∙ ap (λ ys. filter (is_event_of x) (flat_map (transition_events x.element position t) ys)) once)
+      ∙ ap (λ ys. filter (is_event_of x) (flat_map (transition_events x.element position t) ys)) once
       ∙ kept (kept_for x.property running)
     where
       kept : (o : Option Transition)
-          → map occurrence_told (filter (is_event_of x) (flat_map (transition_events x.element position t) (option_to_list (option_map (λ r. (x.property, r)) o))))
-          ≡ told_running t o
+          → filter (is_event_of x) (flat_map (transition_events x.element position t) (option_to_list (option_map (λ r. (x.property, r)) o))) ≡ running_events position t o
       kept None = refl
       kept (Some r) =
-          ap (λ es. map occurrence_told (filter (is_event_of x) es)) (append-nil (transition_events x.element position t (x.property, r)))
-          ∙ run_told position t r (nat_eq r.generation x.generation) refl
+          ap (filter (is_event_of x)) (append-nil (transition_events x.element position t (x.property, r)))
+          ∙ own_transition position t r (nat_eq r.generation x.generation) refl
 
-  animations_told : (position : ℕ) (t : ℤ) (animations : List AnimationState) → filter (is_event_of x) (flat_map (animation_events x.element position t) animations) ≡ []
-  animations_told position t animations =
+  no_animation : (position : ℕ) (t : ℤ) (animations : List AnimationState) → filter (is_event_of x) (flat_map (animation_events x.element position t) animations) ≡ []
+  no_animation position t animations =
       none_flat (is_event_of x) (animation_events x.element position t) animations (λ a.
       none_mapped (is_event_of x) (told_event x.element (Animation a.name) (animation_standing position a)) (animation_occurrences a t a.seen (animation_phase a t))
       (λ o. own_event (Animation a.name) (animation_standing position a) o))
 
-  effects_told : (position : ℕ) (t : ℤ) (e : EffectLists) → IsOnce x.property e.transitions.running
-      → told_of x (effect_events x.element position t e) ≡ told_running t (kept_for x.property e.transitions.running) ++ told_gone (filter is_gone_of e.gone)
-  effects_told position t e once =
-      ap (map occurrence_told)
-      (filter-append (is_event_of x) (flat_map (transition_events x.element position t) e.transitions.running ++ flat_map (animation_events x.element position t) e.animations)
-      (flat_map (cancel_events x.element) e.gone)
-      ∙ ap (λ es. es ++ filter (is_event_of x) (flat_map (cancel_events x.element) e.gone))
+  own_effects : (position : ℕ) (t : ℤ) (e : EffectLists) → IsOnce x.property e.transitions.running
+      → filter (is_event_of x) (effect_events x.element position t e)
+      ≡ running_events position t (kept_for x.property e.transitions.running) ++ gone_events (filter is_gone_of e.gone)
+  own_effects position t e once =
+      filter-append (is_event_of x) (flat_map (transition_events x.element position t) e.transitions.running ++ flat_map (animation_events x.element position t) e.animations)
+      (gone_events e.gone)
+      ∙ ap (λ es. es ++ filter (is_event_of x) (gone_events e.gone))
       (filter-append (is_event_of x) (flat_map (transition_events x.element position t) e.transitions.running) (flat_map (animation_events x.element position t) e.animations)
-      ∙ ap (λ es. filter (is_event_of x) (flat_map (transition_events x.element position t) e.transitions.running) ++ es) (animations_told position t e.animations)
-      ∙ append-nil (filter (is_event_of x) (flat_map (transition_events x.element position t) e.transitions.running))))
-      ∙ map-append occurrence_told (filter (is_event_of x) (flat_map (transition_events x.element position t) e.transitions.running))
-      (filter (is_event_of x) (flat_map (cancel_events x.element) e.gone))
-      ∙ ap (λ os. os ++ map occurrence_told (filter (is_event_of x) (flat_map (cancel_events x.element) e.gone))) (running_told position t e.transitions.running once)
-      ∙ ap (λ os. told_running t (kept_for x.property e.transitions.running) ++ os) (gone_told e.gone)
+      ∙ ap (λ es. filter (is_event_of x) (flat_map (transition_events x.element position t) e.transitions.running) ++ es) (no_animation position t e.animations)
+      ∙ append-nil (filter (is_event_of x) (flat_map (transition_events x.element position t) e.transitions.running))
+      ∙ all_running position t e.transitions.running once)
+      ∙ ap (λ es. running_events position t (kept_for x.property e.transitions.running) ++ es) (own_gone e.gone)
 
   -- ---- those of a tick
+
+  -- those of an entry
+  abbrev pub own_events : ℕ → ℤ → EntryParts → List Event
+  own_events position t e = running_events position t (kept_for x.property e.effects.transitions.running) ++ gone_events (filter is_gone_of e.effects.gone)
+
+  of_entries : (d : Document) (t : ℤ) (entries : List (ℕ × EntryParts)) → are_apart (map (λ e. e.0) entries) ≡ true
+      → IsOnce x.property (entry_for entries x.element).effects.transitions.running
+      → filter (is_event_of x) (flat_map (entry_events d t) entries) ≡ own_events (position_in_tree d x.element) t (entry_for entries x.element)
+  of_entries d t entries apart once =
+      flat_without (is_event_of x) (entry_events d t) (λ e. nat_eq e.0 x.element) entries
+      (λ e differ. others_effects e.0 (position_in_tree d e.0) t e.1.effects differ)
+      ∙ ap (λ es. filter (is_event_of x) (flat_map (entry_events d t) es)) (only_number x.element entries apart)
+      ∙ by_value (value_for entries x.element) once
+    where
+      by_value : (o : Option EntryParts) → IsOnce x.property (unwrap_or o fresh_entry).effects.transitions.running
+          → filter (is_event_of x) (flat_map (entry_events d t) (option_to_list (option_map (λ e. (x.element, e)) o)))
+          ≡ own_events (position_in_tree d x.element) t (unwrap_or o fresh_entry)
+      by_value None once = refl
+      by_value (Some e) once =
+          ap (filter (is_event_of x)) (append-nil (effect_events x.element (position_in_tree d x.element) t e.effects))
+          ∙ own_effects (position_in_tree d x.element) t e.effects once
+
+  of_departed : (departed : List (ℕ × Gone)) → filter (is_event_of x) (flat_map (λ d. cancel_events d.0 d.1) departed) ≡ gone_events (departed_items departed)
+  of_departed [] = refl
+  of_departed (d ∷ departed) =
+      filter-append (is_event_of x) (cancel_events d.0 d.1) (flat_map (λ d. cancel_events d.0 d.1) departed)
+      ∙ ap (λ es. filter (is_event_of x) (cancel_events d.0 d.1) ++ es) (of_departed departed)
+      ∙ elim (cases_Bool (nat_eq d.0 x.element)) [
+        | inl same ↦
+            rw same (ap (λ n. filter (is_event_of x) (cancel_events n d.1) ++ gone_events (departed_items departed)) (eqb-true d.0 x.element same) ∙ here (is_gone_of d.1) refl)
+        | inr differ ↦ rw differ (ap (λ es. es ++ gone_events (departed_items departed)) (others_cancel d.0 d.1 differ))
+      ]
+    where
+      here : (b : Bool) → is_gone_of d.1 ≡ b
+          → filter (is_event_of x) (cancel_events x.element d.1) ++ gone_events (departed_items departed)
+          ≡ gone_events (cond b (d.1 ∷ departed_items departed) (departed_items departed))
+      here true is = ap (λ es. es ++ gone_events (departed_items departed)) (own_cancels d.1 true is)
+      here false is = ap (λ es. es ++ gone_events (departed_items departed)) (own_cancels d.1 false is)
+
+  pub of_tick : (d : Document) (t : ℤ) (entries : List (ℕ × EntryParts)) (departed : List (ℕ × Gone)) → are_apart (map (λ e. e.0) entries) ≡ true
+      → IsOnce x.property (entry_for entries x.element).effects.transitions.running
+      → filter (is_event_of x) (tick_events d t entries departed)
+      ≡ own_events (position_in_tree d x.element) t (entry_for entries x.element) ++ gone_events (departed_items departed)
+  of_tick d t entries departed apart once =
+      filter-append (is_event_of x) (flat_map (entry_events d t) entries) (flat_map (λ d. cancel_events d.0 d.1) departed)
+      ∙ ap (λ es. es ++ filter (is_event_of x) (flat_map (λ d. cancel_events d.0 d.1) departed)) (of_entries d t entries apart once)
+      ∙ ap (λ es. own_events (position_in_tree d x.element) t (entry_for entries x.element) ++ es) (of_departed departed)
+
+  -- ---- what they tell
+
+  told_again : (n : ℕ) (s : Subject) (at : Standing) (os : List Occurrence) → map occurrence_told (map (told_event n s at) os) ≡ os
+  told_again n s at [] = refl
+  told_again n s at (o ∷ os) = ap (λ ps. o ∷ ps) (told_again n s at os)
+
+  running_tells : (position : ℕ) (t : ℤ) (o : Option Transition) → map occurrence_told (running_events position t o) ≡ told_running t o
+  running_tells position t None = refl
+  running_tells position t (Some r) = go (nat_eq r.generation x.generation)
+    where
+      go : (b : Bool)
+          → map occurrence_told (if b then transition_events x.element position t (x.property, r) else []) ≡ (if b then transition_occurrences r r.seen (phase_of r t) else [])
+      go true = told_again x.element (Property x.property) (transition_standing position x.property r) (transition_occurrences r r.seen (phase_of r t))
+      go false = refl
+
+  gone_tell : (gone : List Gone) → map occurrence_told (gone_events gone) ≡ told_gone gone
+  gone_tell [] = refl
+  gone_tell (g ∷ gone) =
+      map-append occurrence_told (cancel_events x.element g) (gone_events gone)
+      ∙ ap (λ os. os ++ map occurrence_told (gone_events gone)) (told_again x.element g.subject (cancelled_standing g.subject g) (cancel_occurrences g))
+      ∙ ap (λ os. cancel_occurrences g ++ os) (gone_tell gone)
 
   -- what an entry tells
   abbrev pub told_by_entry : ℤ → EntryParts → List Occurrence
   told_by_entry t e = told_running t (kept_for x.property e.effects.transitions.running) ++ told_gone (filter is_gone_of e.effects.gone)
 
-  entries_told : (d : Document) (t : ℤ) (entries : List (ℕ × EntryParts)) → are_apart (map (λ e. e.0) entries) ≡ true
-      → IsOnce x.property (entry_for entries x.element).effects.transitions.running
-      → told_of x (flat_map (entry_events d t) entries) ≡ told_by_entry t (entry_for entries x.element)
-  entries_told d t entries apart once =
-      ap (map occurrence_told)
-      (flat_without (is_event_of x) (entry_events d t) (λ e. nat_eq e.0 x.element) entries
-      (λ e differ. others_effects e.0 (position_in_tree d e.0) t e.1.effects differ)
-      ∙ ap (λ es. filter (is_event_of x) (flat_map (entry_events d t) es)) (only_number x.element entries apart))
-      ∙ by_value (value_for entries x.element) once
-    where
-      by_value : (o : Option EntryParts) → IsOnce x.property (unwrap_or o fresh_entry).effects.transitions.running
-          → told_of x (flat_map (entry_events d t) (option_to_list (option_map (λ e. (x.element, e)) o))) ≡ told_by_entry t (unwrap_or o fresh_entry)
-      by_value None once = refl
-      by_value (Some e) once =
-          ap (told_of x) (append-nil (effect_events x.element (position_in_tree d x.element) t e.effects))
-          ∙ effects_told (position_in_tree d x.element) t e.effects once
-
-  departed_told : (departed : List (ℕ × Gone)) → told_of x (flat_map (λ d. cancel_events d.0 d.1) departed) ≡ told_gone (departed_items departed)
-  departed_told [] = refl
-  departed_told (d ∷ departed) =
-      ap (map occurrence_told) (filter-append (is_event_of x) (cancel_events d.0 d.1) (flat_map (λ d. cancel_events d.0 d.1) departed))
-      ∙ map-append occurrence_told (filter (is_event_of x) (cancel_events d.0 d.1)) (filter (is_event_of x) (flat_map (λ d. cancel_events d.0 d.1) departed))
-      ∙ ap (λ os. map occurrence_told (filter (is_event_of x) (cancel_events d.0 d.1)) ++ os) (departed_told departed)
-      ∙ elim (cases_Bool (nat_eq d.0 x.element)) [
-        | inl same ↦ rw same (ap (λ n. map occurrence_told (filter (is_event_of x) (cancel_events n d.1)) ++ told_gone (departed_items departed)) (eqb-true d.0 x.element same) ∙ here (is_gone_of d.1) refl)
-        | inr differ ↦ rw differ (ap (λ es. map occurrence_told es ++ told_gone (departed_items departed)) (others_cancel d.0 d.1 differ))
-      ]
-    where
-      here : (b : Bool) → is_gone_of d.1 ≡ b
-          → map occurrence_told (filter (is_event_of x) (cancel_events x.element d.1)) ++ told_gone (departed_items departed)
-          ≡ told_gone (cond b (d.1 ∷ departed_items departed) (departed_items departed))
-      here true is = ap (λ os. os ++ told_gone (departed_items departed)) (cancel_told d.1 true is)
-      here false is = ap (λ os. os ++ told_gone (departed_items departed)) (cancel_told d.1 false is)
+  entry_tells : (position : ℕ) (t : ℤ) (e : EntryParts) → map occurrence_told (own_events position t e) ≡ told_by_entry t e
+  entry_tells position t e =
+      map-append occurrence_told (running_events position t (kept_for x.property e.effects.transitions.running)) (gone_events (filter is_gone_of e.effects.gone))
+      ∙ ap (λ os. os ++ map occurrence_told (gone_events (filter is_gone_of e.effects.gone))) (running_tells position t (kept_for x.property e.effects.transitions.running))
+      ∙ ap (λ os. told_running t (kept_for x.property e.effects.transitions.running) ++ os) (gone_tell (filter is_gone_of e.effects.gone))
 
   pub tick_told : (d : Document) (t : ℤ) (entries : List (ℕ × EntryParts)) (departed : List (ℕ × Gone)) → are_apart (map (λ e. e.0) entries) ≡ true
       → IsOnce x.property (entry_for entries x.element).effects.transitions.running
       → told_of x (tick_events d t entries departed) ≡ told_by_entry t (entry_for entries x.element) ++ told_gone (departed_items departed)
   tick_told d t entries departed apart once =
-      ap (map occurrence_told) (filter-append (is_event_of x) (flat_map (entry_events d t) entries) (flat_map (λ d. cancel_events d.0 d.1) departed))
-      ∙ map-append occurrence_told (filter (is_event_of x) (flat_map (entry_events d t) entries)) (filter (is_event_of x) (flat_map (λ d. cancel_events d.0 d.1) departed))
-      ∙ ap (λ os. os ++ told_of x (flat_map (λ d. cancel_events d.0 d.1) departed)) (entries_told d t entries apart once)
-      ∙ ap (λ os. told_by_entry t (entry_for entries x.element) ++ os) (departed_told departed)
+      let e = entry_for entries x.element in
+      let position = position_in_tree d x.element in
+      ap (map occurrence_told) (of_tick d t entries departed apart once)
+      ∙ map-append occurrence_told (own_events position t e) (gone_events (departed_items departed))
+      ∙ ap (λ os. os ++ map occurrence_told (gone_events (departed_items departed))) (entry_tells position t e)
+      ∙ ap (λ os. told_by_entry t e ++ os) (gone_tell (departed_items departed))

@@ -9,4 +9,5 @@ pub mod OrderedRuns
 pub mod OrderedUpdates
 pub mod PropertyUpdates
 pub mod Runs
+pub mod SentEvents
 pub mod SoFar

@@ -45,6 +45,10 @@ all_set P [] k y all holds = tt
 all_set P (x ∷ xs) zero y all holds = (holds, all.1)
 all_set P (x ∷ xs) (suc k) y all holds = (all.0, all_set P xs k y all.1 holds)
 
+-- a tick changes neither
+pub still : (r : Transition) (t : ℤ) → IsOrdered r → IsOrdered (seen_in t r)
+still r t ordered = ordered
+
 module _ (laws : ReadingLaws) (x : TransitionName) where
   abbrev n : ℕ
   n = x.element
@@ -134,12 +138,12 @@ module _ (laws : ReadingLaws) (x : TransitionName) where
         go true = left_ordered c
         go false = is
 
-  still : (r : Transition) (t : ℤ) → IsOrdered r → IsOrdered (seen_in t r)
-  still r t ordered = ordered
-
   along : (w : WorldParts) (cs : List Command) → IsOrderedWorld w → HoldsAlong IsOrdered still x w cs
   along w [] is = tt
   along w (c ∷ cs) is = ((after_command w is c).running, along (world_after_command w c) cs (after_command w is c))
 
+  pub new_along : (cs : List Command) → HoldsAlong IsOrdered still x new_world cs
+  new_along cs = along new_world cs new_ordered
+
   pub ordered_run : (cs : List Command) → IsCourse IsOrdered x.generation (told_of x (events_of_run new_world cs))
-  ordered_run cs = run_course IsOrdered still x cs [] new_world (new_so_far IsOrdered still x) (along new_world cs new_ordered)
+  ordered_run cs = run_course IsOrdered still x cs [] new_world (new_so_far IsOrdered still x) (new_along cs)

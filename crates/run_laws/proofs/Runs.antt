@@ -30,6 +30,7 @@ use Rattle.style_data.specs.declared.gone.Gone.{Gone}
 use Rattle.style_data.specs.TransitionSets.{running_of}
 use Rattle.style_data.specs.declared.transition.Phase.{Phase}
 use Rattle.style_data.specs.declared.transition.Transition.{Transition}
+use Rattle.ticker.specs.Events.{cancel_occurrences}
 use Rattle.ticker.specs.Ticks.{running_after, seen_in, still_running, ticked_effects, ticked_entry, ticked_transitions}
 use Rattle.ticker.specs.declared.event.Occurrence.{Occurrence}
 use Rattle.transition_update.proofs.ByProperty.{by_property_has}
@@ -142,7 +143,7 @@ module _ (P : Transition → Type 0) (still : (r : Transition) (t : ℤ) → P r
         tick_told x w.document t w.entries w.departed (ap are_apart is.order ∙ is.numbered.apart) is.once
         ∙ append_assoc (told_running x t (run_of e)) (told_gone x (filter (is_gone_of x) e.effects.gone)) (told_gone x (departed_items x w.departed))
         ∙ ap (λ os. told_running x t (run_of e) ++ os)
-        (sym (swapped P still x told w.frames t (run_of e) (departed_items x w.departed) (filter (is_gone_of x) e.effects.gone) is.so_far))
+        (sym (swapped P still x cancel_occurrences told w.frames t (run_of e) (departed_items x w.departed) (filter (is_gone_of x) e.effects.gone) is.so_far))
 
     ticked_run : run_of (ticked_parts t e) ≡ option_and_then (still_running t) (run_of e)
     ticked_run = by_property_has (running_after t e.effects.transitions) x.property
@@ -383,7 +384,7 @@ module _ (P : Transition → Type 0) (still : (r : Transition) (t : ℤ) → P r
   refused_tells w (Get m p) refused = refl
   refused_tells w (Listing m) refused = refl
 
-  one_command : (told : List Occurrence) (w : WorldParts) (c : Command) → IsRunSoFar told w → HoldsOf P (run_of (entry_for (world_after_command w c).entries n))
+  pub one_command : (told : List Occurrence) (w : WorldParts) (c : Command) → IsRunSoFar told w → HoldsOf P (run_of (entry_for (world_after_command w c).entries n))
       → IsRunSoFar (told ++ told_of x (events_of_command w c)) (world_after_command w c)
   one_command told w c is = go (is_none (refusal_of w c)) refl
     where

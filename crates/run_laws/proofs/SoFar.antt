@@ -217,13 +217,13 @@ module _ (P : Transition → Type 0) (still : (r : Transition) (t : ℤ) → P r
       course)
 
   -- one item at most stands in two lists, so that their order shows nothing
-  pub swapped : (told : List Occurrence) (frames : ℕ) (t : ℤ) (run : Option Transition) (a b : List Gone) → IsToldSoFar P g told frames t run (a ++ b)
-      → told_gone x (a ++ b) ≡ told_gone x b ++ told_gone x a
-  swapped told frames t run [] b so_far = sym (append-nil (told_gone x b))
-  swapped told frames t run (y ∷ a) b so_far =
+  pub swapped : {X : Type 0} (tells : Gone → List X) (told : List Occurrence) (frames : ℕ) (t : ℤ) (run : Option Transition) (a b : List Gone)
+      → IsToldSoFar P g told frames t run (a ++ b) → flat_map tells (a ++ b) ≡ flat_map tells b ++ flat_map tells a
+  swapped tells told frames t run [] b so_far = sym (append-nil (flat_map tells b))
+  swapped tells told frames t run (y ∷ a) b so_far =
       let none : a ++ b ≡ [] = rest so_far in
-      ap (λ ys. cancel_occurrences y ++ told_gone x ys) (none ∙ sym (none_left a b none))
-      ∙ sym (ap (λ ys. told_gone x ys ++ (cancel_occurrences y ++ told_gone x a)) (none_right a b none))
+      ap (λ ys. tells y ++ flat_map tells ys) (none ∙ sym (none_left a b none))
+      ∙ sym (ap (λ ys. flat_map tells ys ++ (tells y ++ flat_map tells a)) (none_right a b none))
     where
       rest : IsToldSoFar P g told frames t run (y ∷ a ++ b) → a ++ b ≡ []
       rest (waits early none not_run not_left) = absurd (cc)

@@ -1,5 +1,6 @@
 -- Runs of a world: commands one after another, and the events of their frames.
 use Rattle.std.specs.Prelude.{◌≡◌, ℕ, List, [], ◌∷◌, ◌++◌, take, Some, is_none, if◌then◌else◌}
+use Rattle.event_order.specs.Order.{IsInOrderOf}
 use Rattle.restyle.specs.Edits.{edited, refusal_of}
 use Rattle.restyle.specs.StyleChanges.{entry_for}
 use Rattle.restyle.specs.Worlds.{WorldParts, events_of_frame, world_after_frame}
@@ -34,6 +35,12 @@ world_after_run w (c ∷ cs) = world_after_run (world_after_command w c) cs
 unfoldable pub events_of_run : WorldParts → List Command → List Event
 events_of_run w [] = []
 events_of_run w (c ∷ cs) = events_of_command w c ++ events_of_run (world_after_command w c) cs
+
+-- the events that these commands may send: those of each frame by ascending keys, one frame after another
+unfoldable pub AreSent : WorldParts → List Command → List Event → Type 0
+AreSent w [] sent = sent ≡ []
+AreSent w (c ∷ cs) sent =
+    (first : List Event) × (later : List Event) × IsInOrderOf first (events_of_command w c) × AreSent (world_after_command w c) cs later × (sent ≡ first ++ later)
 
 -- after some of the commands the transition runs for the property of the element, in whichever phase it was seen last
 abbrev pub HasRun : WorldParts → List Command → TransitionName → Transition → Type 0

@@ -1,10 +1,11 @@
 //! What holds over every run of commands by the definitions alone.
 
-ghost use Rattle.std.specs.Prelude.{List, map};
+ghost use Rattle.std.specs.Prelude.{◌≡◌, List, map};
 ghost use Rattle.restyle.specs.Worlds.{new_world};
 ghost use Rattle.script_text.specs.declared.command.Command.{Command};
+ghost use Rattle.style_data.specs.declared.event.Event.{Event};
 ghost use Rattle.ticker.specs.Courses.{NeverFall};
-ghost use Rattle.run_laws.specs.Runs.{HasRun, events_of_run};
+ghost use Rattle.run_laws.specs.Runs.{AreSent, HasRun, events_of_run};
 ghost use Rattle.run_laws.specs.TransitionCourses.{AreInTurn, IsCourse, times_of};
 ghost use Rattle.run_laws.specs.TransitionNames.{TransitionName, events_of_transition, told_of};
 
@@ -19,6 +20,14 @@ pub fn courses_in_turn()
 /// before it has come.
 pub fn scheduled_times_never_fall()
     ensures { (cs : List Command) (x : TransitionName) → NeverFall (times_of (told_of x (events_of_run new_world cs))) }
+{
+    sheet_rules::sheet_reading_is_exact();
+    sheet_rules::style_reading_is_exact();
+}
+
+/// Whatever order a frame's events are sent in by their keys, those of one transition are sent as its tick has them: so the laws above hold of what is sent.
+pub fn sent_as_told()
+    ensures { (cs : List Command) (x : TransitionName) (sent : List Event) → AreSent new_world cs sent → told_of x sent ≡ told_of x (events_of_run new_world cs) }
 {
     sheet_rules::sheet_reading_is_exact();
     sheet_rules::style_reading_is_exact();

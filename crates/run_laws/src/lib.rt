@@ -3,4 +3,4 @@
 
 mod laws;
 
-pub use laws::{courses_in_turn, scheduled_times_never_fall};
+pub use laws::{courses_in_turn, scheduled_times_never_fall, sent_as_told};
