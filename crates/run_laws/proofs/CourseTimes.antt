@@ -1,5 +1,5 @@
 -- The scheduled times of a course never fall.
-use Rattle.std.proofs.Common.{◌≡◌, ℕ, zero, suc, ◌<◌, ◌≤◌, refl, ap, sym, ◌∙◌, inl, inr, subst, arith, Bool, true, false, List, [], ◌∷◌, ◌++◌, map, take}
+use Rattle.std.proofs.Common.{◌≡◌, ℕ, zero, suc, ◌≤◌, refl, sym, inl, inr, subst, arith, Bool, true, false, List, [], ◌∷◌, ◌++◌, take}
 use Rattle.std.specs.Prelude.{ℤ, ◌≤ℤ◌, int_le, int_lt, if◌then◌else◌}
 use Rattle.std.specs.Int.{int_max}
 use Rattle.std.proofs.lemmas.Int.{ints, clamps}
@@ -7,7 +7,6 @@ use Rattle.style_data.specs.declared.transition.Phase.TheVariants.{Before, Activ
 use Rattle.style_data.specs.declared.transition.Transition.{Transition}
 use Rattle.ticker.specs.Courses.{NeverFall, whole_course}
 use Rattle.ticker.specs.declared.event.Occurrence.{Occurrence}
-use Rattle.transition_start.specs.Phase.{phase_of}
 use Rattle.run_laws.specs.TransitionCourses.{IsCourse, IsCourseOf, IsCutOff, count_seen, times_of, transitioncancel}
 
 one_rises : (a : ℤ) → NeverFall (a ∷ [])

@@ -1,9 +1,9 @@
 -- No duration that sheets and style attributes declare of transitions is negative, and so none that matches a property.
-use Rattle.std.proofs.Common.{◌≡◌, ℕ, zero, suc, ◌+◌, ◌%◌, refl, ap, sym, ◌∙◌, subst, inl, inr, arith, Bool, true, false, Option, Some, None, List, [], ◌∷◌, ◌++◌, filter, length, map, get_or}
-use Rattle.std.specs.Prelude.{◌↔◌, ⊤, ◌==◌, ℤ, pos, ◌≤ℤ◌, option_map, if◌then◌else◌, Result, Ok, Err}
+use Rattle.std.proofs.Common.{◌≡◌, ℕ, zero, suc, ◌+◌, ◌%◌, refl, subst, arith, Bool, true, false, Option, Some, None, List, [], ◌∷◌, filter, length, map, get_or}
+use Rattle.std.specs.Prelude.{◌↔◌, ⊤, ◌==◌, option_map, if◌then◌else◌, Result, Ok, Err}
 use Rattle.std.specs.List.{AllByRecursion}
 use Rattle.std.specs.Option.{option_map_or, option_or}
-use Rattle.std.proofs.lemmas.Bool.{cases_Bool, false≢true}
+use Rattle.std.proofs.lemmas.Bool.{false≢true}
 use Rattle.std.proofs.lemmas.Int.{ints}
 use Rattle.cascade_sort.specs.Applying.{Applied, applied_from, applied_in_rule, applied_in_rules, applied_in_sheets, applied_to, joined_from, matched_specificity, read_or_none, rules_of, style_declarations, style_text}
 use Rattle.cascade_sort.specs.Lexicographic.{greater_by, greatest_by, is_at_most}
@@ -11,19 +11,19 @@ use Rattle.cascade_sort.specs.Precedences.{Specificity, keys_of, of_rule, of_sty
 use Rattle.cascade_sort.specs.Winning.{all_winners, declared_of, is_in_slot, list_in, list_winners, slot, winner_in}
 use Rattle.computed_style.specs.ComputedStyles.{list_winner, transition_lists_of}
 use Rattle.computed_style.specs.DeclaredItems.{times_or}
-use Rattle.computed_style.specs.Winners.{all_lists, place_of}
+use Rattle.computed_style.specs.Winners.{place_of}
 use Rattle.css_token.specs.declared.token.Token.{Token}
 use Rattle.doc_tree.specs.Element.{Element, inclusive_ancestors}
 use Rattle.fix_num.specs.declared.units.Micros.{Micros}
-use Rattle.sheet_rules.specs.BlockGrammar.{IsBlock, IsBlockEnd, IsDeclaration, IsName, ended, declaration}
-use Rattle.sheet_rules.specs.Declarations.{declarations_of, ends_important, is_dropped, judged, judged_as, unmarked}
+use Rattle.sheet_rules.specs.BlockGrammar.{IsBlock, ended, declaration}
+use Rattle.sheet_rules.specs.Declarations.{declarations_of, ends_important, is_dropped, judged, unmarked}
 use Rattle.sheet_rules.specs.RuleGrammar.{IsRule, style, keyframes}
 use Rattle.sheet_rules.specs.Rules.{declarations_in, sheet_of}
 use Rattle.sheet_rules.specs.SheetGrammar.{AreRules, IsSheet, ended as all_ended, rule}
 use Rattle.sheet_rules.specs.StyleGrammar.{IsStyle}
 use Rattle.sheet_rules.specs.declared.block_kind.BlockKind.{BlockKind}
 use Rattle.sheet_rules.specs.declared.fault.CssFault.{CssFault}
-use Rattle.sheet_types.specs.Sheets.{SheetRules, no_rules}
+use Rattle.sheet_types.specs.Sheets.{SheetRules}
 use Rattle.sheet_types.specs.declared.declaration.DeclarationParts.{DeclarationParts}
 use Rattle.sheet_types.specs.declared.rule.Rule.{Rule}
 use Rattle.shorthand_text.specs.Declaring.{declared_of as longhands_in}

@@ -1,7 +1,7 @@
 -- No duration that a declaration gives transitions is negative.
-use Rattle.std.proofs.Common.{◌≡◌, ℕ, refl, sym, subst, inl, inr, arith, Bool, true, false, Option, Some, None, List, [], ◌∷◌, ◌++◌, map}
-use Rattle.std.specs.Prelude.{◌⊎◌, ⊤, ℤ, pos, negsuc, ◌≤ℤ◌, ◌==◌, nat_lt, option_map, if◌then◌else◌, Result, Ok, Err, length, unwrap_or, ◌&&◌}
-use Rattle.std.specs.List.{AllByRecursion, list_all, list_any}
+use Rattle.std.proofs.Common.{◌≡◌, refl, sym, subst, inl, inr, arith, Bool, true, false, Option, Some, None, List, [], ◌∷◌, ◌++◌, map}
+use Rattle.std.specs.Prelude.{◌⊎◌, ⊤, ℤ, pos, negsuc, ◌≤ℤ◌, ◌==◌, nat_lt, option_map, if◌then◌else◌, Result, Ok, Err, length, unwrap_or}
+use Rattle.std.specs.List.{AllByRecursion, list_all}
 use Rattle.std.proofs.lemmas.Int.{ints}
 use Rattle.fix_num.specs.declared.units.Micros.{Micros}
 use Rattle.list_text.specs.ItemReading.{each_of, groups_of, is_initial, items_of, items_within, list_of, list_value_of, micros, micros_of, micros_within, result_map, time_of}
@@ -11,7 +11,7 @@ use Rattle.shorthand_text.specs.Components.{component_values_of, fitting, others
 use Rattle.shorthand_text.specs.Declaring.{declared_of}
 use Rattle.shorthand_text.specs.Outcomes.{all_given, outcome_map}
 use Rattle.shorthand_text.specs.Sides.{box_in, initial_lists, keyword_in_all, lists_in, property_by, shorthand_from, shorthand_in, sides_in, value_in_all}
-use Rattle.shorthand_text.specs.TimingItems.{animation_in, animation_lists, animation_longhands, animation_within, animation_item, easing_in, is_nothing, item_duration, lone_nothing, property_of, time_in, transition_in, transition_item, transition_lists, transition_longhands, transition_of_values, transition_with, transition_within}
+use Rattle.shorthand_text.specs.TimingItems.{animation_in, animation_lists, animation_longhands, animation_within, animation_item, easing_in, item_duration, lone_nothing, property_of, time_in, transition_in, transition_item, transition_lists, transition_longhands, transition_of_values, transition_with, transition_within}
 use Rattle.shorthand_text.specs.declared.known_name.KnownName.{KnownName}
 use Rattle.shorthand_text.specs.declared.known_name.KnownName.TheVariants as known
 use Rattle.shorthand_text.specs.declared.longhand.Longhand.{Longhand}

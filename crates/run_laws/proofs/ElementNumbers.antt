@@ -1,12 +1,12 @@
 -- The elements of a run's document have different numbers, each of which was used.
-use Rattle.std.proofs.Common.{◌≡◌, ℕ, refl, ap, sym, ◌∙◌, inl, inr, eqb, Bool, true, false, not, ◌&&◌, ◌||◌, Option, Some, None, List, [], ◌∷◌, ◌++◌, filter, map, take, drop, take-append-drop}
-use Rattle.std.specs.Prelude.{nat_eq, if◌then◌else◌}
+use Rattle.std.proofs.Common.{◌≡◌, ℕ, refl, ap, sym, ◌∙◌, inl, inr, eqb, Bool, true, false, not, ◌||◌, List, [], ◌∷◌, ◌++◌, filter, take, drop, take-append-drop}
+use Rattle.std.specs.Prelude.{nat_eq}
 use Rattle.std.specs.List.{list_all, list_any}
 use Rattle.std.proofs.lemmas.Bool.{and_from, and_parts, cases_Bool, eq-eqb, eqb-true, false≢true, ne_eqb, or_from, or_left, or_parts}
 use Rattle.std.proofs.lemmas.List.{map-append}
 use Rattle.std.proofs.lemmas.List.Folds.{list_all-append, list_any-append}
 use Rattle.doc_tree.specs.Change.{with_change, without}
-use Rattle.doc_tree.specs.Element.{Document, Element, is_inclusive_descendant, is_used, numbers_of, subtree_of}
+use Rattle.doc_tree.specs.Element.{Document, Element, is_inclusive_descendant, is_used, numbers_of}
 use Rattle.restyle.specs.Documents.{with_element}
 use Rattle.restyle.specs.Entries.{are_apart, is_among}
 use Rattle.restyle.proofs.WorldEdits.{changed_numbers}

@@ -1,12 +1,11 @@
 -- What the events of a frame tell of a transition: what its element's running transition of the property tells, and what its cancelled items do.
-use Rattle.std.proofs.Common.{◌≡◌, ℕ, refl, ap, sym, ◌∙◌, inl, inr, subst, Bool, true, false, Option, Some, None, List, [], ◌∷◌, ◌++◌, append-nil, filter, map, cond}
+use Rattle.std.proofs.Common.{◌≡◌, ℕ, refl, ap, ◌∙◌, inl, inr, subst, Bool, true, false, Option, Some, None, List, [], ◌∷◌, ◌++◌, append-nil, filter, map, cond}
 use Rattle.std.specs.Prelude.{ℤ, nat_eq, ◌&&◌, not, option_map, unwrap_or, if◌then◌else◌}
 use Rattle.std.specs.List.{flat_map}
 use Rattle.std.specs.Option.{option_to_list}
-use Rattle.std.proofs.lemmas.Bool.{and_parts, cases_Bool, eq-eqb, eqb-true, false≢true, ne_eqb, or_parts}
+use Rattle.std.proofs.lemmas.Bool.{and_parts, cases_Bool, eq-eqb, eqb-true, false≢true, or_parts}
 use Rattle.std.proofs.lemmas.List.{map-append}
 use Rattle.std.proofs.lemmas.List.Elements.{filter-append}
-use Rattle.computed_style.proofs.Tables.{same_property}
 use Rattle.computed_style.specs.ByProperty.{kept_for}
 use Rattle.doc_tree.specs.Element.{Document}
 use Rattle.pass_core.specs.Passes.{value_for}
@@ -24,7 +23,6 @@ use Rattle.ticker.specs.TransitionEvents.{transition_occurrences}
 use Rattle.ticker.specs.declared.event.Occurrence.{Occurrence}
 use Rattle.ticker.specs.declared.event.Standing.{Standing}
 use Rattle.transition_start.specs.Phase.{phase_of}
-use Rattle.value_types.specs.Properties.{number_of}
 use Rattle.value_types.specs.declared.property.PropertyId.{PropertyId}
 use Rattle.restyle.specs.Entries.{are_apart, is_among}
 use Rattle.restyle.specs.StyleChanges.{entry_for}

@@ -1,6 +1,6 @@
 -- The kinds of a course come in turn.
-use Rattle.std.proofs.Common.{◌≡◌, ℕ, zero, suc, ◌<◌, ◌≤◌, refl, ap, sym, ◌∙◌, inl, inr, arith, List, [], ◌∷◌, ◌++◌, filter, map, take}
-use Rattle.std.specs.Prelude.{◌⊎◌, ℤ}
+use Rattle.std.proofs.Common.{◌≡◌, ℕ, zero, suc, refl, ap, sym, inl, inr, arith, List, [], ◌∷◌, ◌++◌, map, take}
+use Rattle.std.specs.Prelude.{ℤ}
 use Rattle.style_data.specs.declared.event.Event.{Event}
 use Rattle.style_data.specs.declared.event.EventKind.{EventKind}
 use Rattle.style_data.specs.declared.transition.Transition.{Transition}

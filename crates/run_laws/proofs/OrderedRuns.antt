@@ -1,9 +1,8 @@
 -- In every world of a run no transition ends before it starts.
-use Rattle.std.proofs.Common.{◌≡◌, ℕ, zero, suc, refl, ap, sym, ◌∙◌, subst, inl, inr, arith, Bool, true, false, Option, Some, None, List, [], ◌∷◌, map, set}
-use Rattle.std.specs.Prelude.{⊤, ℤ, ◌-◌, int_le, is_none, option_and_then, option_map, replicate, unwrap_or, if◌then◌else◌, Result, Ok, Err}
+use Rattle.std.proofs.Common.{◌≡◌, ℕ, zero, suc, refl, sym, subst, inl, inr, Bool, true, false, Option, Some, None, List, [], ◌∷◌, map, set}
+use Rattle.std.specs.Prelude.{ℤ, ◌-◌, int_le, is_none, option_and_then, option_map, replicate, unwrap_or, if◌then◌else◌, Result, Ok, Err}
 use Rattle.std.specs.List.{AllByRecursion}
 use Rattle.std.specs.Result.{result_map_both}
-use Rattle.std.proofs.lemmas.Bool.{cases_Bool, false≢true}
 use Rattle.cascade_sort.specs.Applying.{rules_of}
 use Rattle.computed_style.specs.ByProperty.{kept_for}
 use Rattle.doc_tree.specs.Change.{with_classes, with_id, with_style, without}
@@ -14,18 +13,17 @@ use Rattle.script_text.specs.declared.command.Command.{Command}
 use Rattle.script_text.specs.declared.command.Command.TheVariants.{Blank, Add, Insert, Remove, Id, Class, Style, Sheet, At, Frame, Get, List as Listing}
 use Rattle.sheet_rules.specs.Rules.{sheet_of}
 use Rattle.sheet_rules.specs.declared.fault.CssFault.{CssFault}
-use Rattle.sheet_types.specs.Sheets.{SheetRules, no_sheets}
+use Rattle.sheet_types.specs.Sheets.{SheetRules}
 use Rattle.style_data.specs.Entries.{EntryParts, fresh_entry}
 use Rattle.style_data.specs.declared.transition.Transition.{Transition}
 use Rattle.ticker.specs.Ticks.{running_after, seen_in, still_running, ticked_entry}
 use Rattle.transition_update.proofs.ByProperty.{by_property_has}
 use Rattle.restyle.specs.Documents.{with_last_child, with_previous_sibling}
-use Rattle.restyle.specs.Edits.{edited, refusal_of, sheet_found, with_sheet}
+use Rattle.restyle.specs.Edits.{refusal_of, sheet_found, with_sheet}
 use Rattle.restyle.specs.StyleChanges.{ancestors_of, entry_after_event, entry_for, frame_after, frame_event, inherited_above, styles_along}
 use Rattle.restyle.specs.Worlds.{WorldParts, entries_of, frame_of, new_world, ticked_world, world_after_frame}
 use Rattle.restyle.proofs.Outcomes.{value_for-map}
 use Rattle.restyle.proofs.QuietWorlds.{ticked_for}
-use Rattle.restyle.proofs.StillEntries.{ticked_parts}
 use Rattle.run_laws.specs.Runs.{events_of_run, world_after_command, world_left_by}
 use Rattle.run_laws.specs.TransitionCourses.{IsCourse}
 use Rattle.run_laws.specs.TransitionNames.{TransitionName, told_of}

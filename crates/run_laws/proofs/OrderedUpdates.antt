@@ -1,6 +1,6 @@
 -- No transition that an event starts ends before it starts.
-use Rattle.std.proofs.Common.{◌≡◌, ℕ, refl, ap, sym, ◌∙◌, subst, arith, Bool, true, false, Option, Some, None, List}
-use Rattle.std.specs.Prelude.{⊤, ℤ, pos, ◌+ℤ◌, ◌-ℤ◌, ◌*ℤ◌, ◌≤ℤ◌, option_and_then, option_map, unsigned_abs, if◌then◌else◌}
+use Rattle.std.proofs.Common.{◌≡◌, ℕ, refl, sym, subst, arith, Bool, true, false, Option, Some, None}
+use Rattle.std.specs.Prelude.{ℤ, pos, ◌+ℤ◌, ◌-ℤ◌, ◌≤ℤ◌, option_and_then, option_map, if◌then◌else◌}
 use Rattle.std.specs.List.{AllByRecursion}
 use Rattle.std.proofs.lemmas.Int.{ints}
 use Rattle.change_styles.specs.ThreeStyles.{after_change_style}
@@ -17,7 +17,6 @@ use Rattle.reversing.specs.Reversal.{IsFactor, part_of, shortened}
 use Rattle.style_data.specs.Entries.{EntryParts}
 use Rattle.style_data.specs.TransitionSets.{TransitionSet, no_transitions}
 use Rattle.style_data.specs.declared.transition.Transition.{Transition}
-use Rattle.transition_list.specs.Matching.{match_of}
 use Rattle.transition_list.specs.declared.matched.MatchedItem.{MatchedItem}
 use Rattle.transition_start.specs.Change.{Change}
 use Rattle.transition_start.specs.Functions.{decision_of, rule_of}
@@ -30,7 +29,7 @@ use Rattle.transition_update.specs.Updates.{StyleChange, change_of, decision_for
 use Rattle.value_types.specs.declared.property.PropertyId.{PropertyId}
 use Rattle.value_types.specs.declared.value.Value.{Value}
 use Rattle.run_laws.proofs.DeclaredDurations.{AreTimelySheets, HasDuration, ReadingLaws, durations_timely, matched_timely}
-use Rattle.run_laws.proofs.Durations.{Given, IsNotNegative}
+use Rattle.run_laws.proofs.Durations.{IsNotNegative}
 use Rattle.run_laws.proofs.SoFar.{HoldsOf}
 
 -- it ends no earlier than it starts

@@ -1,37 +1,33 @@
 -- What a style change event leaves and cancels of one property's transition.
 use Rattle.std.proofs.Common.{◌≡◌, ℕ, refl, ap, sym, ◌∙◌, subst, Bool, true, false, Option, Some, None, List, [], ◌∷◌, ◌++◌, append-nil, filter, map}
 use Rattle.std.specs.Prelude.{ℤ, ◌&&◌, nat_eq, option_and_then, option_map, if◌then◌else◌}
-use Rattle.std.specs.List.{filter_map}
 use Rattle.std.specs.Option.{option_to_list}
 use Rattle.std.proofs.lemmas.List.Elements.{filter-append}
 use Rattle.animation_names.specs.Continuing.{cancelled_animation}
-use Rattle.animation_names.specs.NameLists.{NamesUpdate, names_update}
+use Rattle.animation_names.specs.NameLists.{NamesUpdate}
 use Rattle.animation_names.specs.Updates.{animations_after, gone_after, gone_at, gone_from, goes_on}
 use Rattle.computed_style.specs.ByProperty.{kept_for}
-use Rattle.computed_style.specs.Winners.{Declarations}
 use Rattle.computed_style.specs.declared.inherited.Down.{Down}
-use Rattle.element_step.specs.Rendering.{is_rendered}
 use Rattle.element_step.specs.Updates.{ElementUpdate, cancelled_from, cancelled_of, change_in, entry_after, rendered_after, transitions_from, transitions_of}
-use Rattle.element_step.specs.Works.{DocumentEvent, animation_lists_after, animations_before, animations_updated, element_declarations, entry_at, event_at, paired_at, update_at}
+use Rattle.element_step.specs.Works.{DocumentEvent, animations_updated, entry_at, paired_at, update_at}
 use Rattle.fix_num.specs.declared.units.Micros.{Micros}
 use Rattle.style_data.specs.Entries.{EntryParts}
-use Rattle.style_data.specs.TransitionSets.{TransitionSet, no_transitions, running_of}
+use Rattle.style_data.specs.TransitionSets.{TransitionSet, no_transitions}
 use Rattle.style_data.specs.declared.animation.AnimationState.{AnimationState}
 use Rattle.style_data.specs.declared.decision.Decision.{Decision}
 use Rattle.style_data.specs.declared.gone.Gone.{Gone}
 use Rattle.style_data.specs.declared.transition.Transition.{Transition}
-use Rattle.transition_list.specs.declared.matched.MatchedItem.{MatchedItem}
 use Rattle.transition_start.specs.Change.{Change}
 use Rattle.transition_start.specs.Functions.{decision_of, rule_of}
 use Rattle.transition_start.specs.Results.{decision_by, gone_item, new_transition, reversing_transition}
 use Rattle.transition_start.specs.Rules.{Rule, Unmatched, Starts, DropsCompleted, CancelsThere, CancelsAtOnce, Reverses, Replaces, Keeps}
 use Rattle.transition_start.specs.Sampling.{sample_of}
 use Rattle.transition_update.proofs.ByProperty.{by_property_has}
-use Rattle.transition_update.specs.Updates.{StyleChange, all_cancelled, by_property, cancelled_by, change_of, decision_for, transitions_after}
+use Rattle.transition_update.specs.Updates.{StyleChange, all_cancelled, cancelled_by, change_of, decision_for, transitions_after}
 use Rattle.value_types.specs.Properties.{number_of}
 use Rattle.value_types.specs.declared.property.PropertyId.{PropertyId}
 use Rattle.run_laws.specs.TransitionNames.{TransitionName}
-use Rattle.run_laws.proofs.Filtered.{IsOnce, is_for, mapped_without, none_below, none_mapped, once_by_property, only_property}
+use Rattle.run_laws.proofs.Filtered.{IsOnce, is_for, mapped_without, none_below, once_by_property, only_property}
 use Rattle.run_laws.proofs.FrameEvents.{is_gone_of}
 use Rattle.run_laws.proofs.SoFar.{IsNew, IsUpdated, keeps, starts, cancels}
 

@@ -1,12 +1,10 @@
 -- What was told of a transition so far is kept by each frame and each edit, and so by every run.
-use Rattle.std.proofs.Common.{◌≡◌, ℕ, suc, ◌+◌, ◌<◌, ◌≤◌, refl, ap, sym, ◌∙◌, inl, inr, subst, arith, eqb, Bool, true, false, not, Option, Some, None, List, [], ◌∷◌, ◌++◌, append-nil, append_assoc, filter, map}
+use Rattle.std.proofs.Common.{◌≡◌, ℕ, suc, ◌+◌, ◌≤◌, refl, ap, sym, ◌∙◌, inl, inr, subst, arith, Bool, true, false, not, Option, Some, None, List, [], ◌∷◌, ◌++◌, append-nil, append_assoc, filter, map}
 use Rattle.std.specs.Prelude.{◌⊎◌, ⊤, ℤ, ◌≤ℤ◌, int_lt, is_none, nat_eq, option_and_then, option_map, unwrap_or, if◌then◌else◌, Result, Ok, Err}
 use Rattle.std.specs.List.{flat_map}
-use Rattle.std.specs.Option.{option_to_list}
-use Rattle.std.proofs.lemmas.Bool.{and_parts, cases_Bool, cases_lt, eq-eqb, eqb-true, false≢true, ne_eqb, or_parts}
+use Rattle.std.proofs.lemmas.Bool.{and_parts, cases_Bool, cases_lt, eq-eqb, eqb-true, false≢true}
 use Rattle.std.proofs.lemmas.Int.{ints}
 use Rattle.std.proofs.lemmas.List.{map-append}
-use Rattle.std.proofs.lemmas.List.Concat.{flat_map-append}
 use Rattle.std.proofs.lemmas.List.Elements.{filter-append}
 use Rattle.animation_names.specs.Continuing.{cancelled_animation}
 use Rattle.computed_style.specs.ByProperty.{kept_for}
@@ -23,19 +21,18 @@ use Rattle.script_text.specs.declared.refusal.Refusal.{Refusal}
 use Rattle.script_text.specs.declared.refusal.Refusal.TheVariants as refusal
 use Rattle.sheet_rules.specs.declared.fault.CssFault.{CssFault}
 use Rattle.sheet_types.specs.Sheets.{SheetRules}
-use Rattle.style_data.specs.Entries.{EffectLists, EntryParts, fresh_entry}
-use Rattle.style_data.specs.declared.animation.AnimationState.{AnimationState}
+use Rattle.style_data.specs.Entries.{EntryParts, fresh_entry}
 use Rattle.style_data.specs.declared.event.Event.{Event}
 use Rattle.style_data.specs.declared.gone.Gone.{Gone}
 use Rattle.style_data.specs.TransitionSets.{running_of}
 use Rattle.style_data.specs.declared.transition.Phase.{Phase}
 use Rattle.style_data.specs.declared.transition.Transition.{Transition}
 use Rattle.ticker.specs.Events.{cancel_occurrences}
-use Rattle.ticker.specs.Ticks.{running_after, seen_in, still_running, ticked_effects, ticked_entry, ticked_transitions}
+use Rattle.ticker.specs.Ticks.{running_after, seen_in, still_running, ticked_entry}
 use Rattle.ticker.specs.declared.event.Occurrence.{Occurrence}
 use Rattle.transition_update.proofs.ByProperty.{by_property_has}
 use Rattle.transition_update.specs.Updates.{all_cancelled}
-use Rattle.restyle.specs.Documents.{last_place, with_element}
+use Rattle.restyle.specs.Documents.{last_place}
 use Rattle.restyle.specs.Edits.{edited, refusal_of, refusal_of_tree, sheet_found, with_sheet, without_element}
 use Rattle.restyle.specs.Entries.{are_apart, is_among}
 use Rattle.restyle.specs.StyleChanges.{ancestors_of, entry_after_event, entry_for, frame_after, frame_event, inherited_above, styles_along}

@@ -1,14 +1,12 @@
 -- The order in which a frame's events are sent is, of one transition, that in which its tick has them.
-use Rattle.std.proofs.Common.{◌≡◌, ◌≢◌, ℕ, zero, suc, ◌+◌, ◌<◌, ◌≤◌, refl, ap, sym, ◌∙◌, inl, inr, subst, arith, Bool, true, false, Option, Some, None, List, [], ◌∷◌, ◌++◌, append-nil, append_assoc, filter, length, map, get_or}
-use Rattle.std.specs.Prelude.{ℤ, ◌≤ℤ◌, ◌<ℤ◌, AllPairs, nat_eq, if◌then◌else◌}
+use Rattle.std.proofs.Common.{◌≡◌, ℕ, zero, suc, ◌+◌, ◌<◌, ◌≤◌, refl, ap, sym, ◌∙◌, inl, inr, subst, arith, Bool, true, false, Option, Some, None, List, [], ◌∷◌, ◌++◌, append-nil, append_assoc, filter, map}
+use Rattle.std.specs.Prelude.{ℤ, ◌≤ℤ◌, ◌<ℤ◌, AllPairs, if◌then◌else◌}
 use Rattle.std.specs.Cmp.{int_ranks, nat_cmp_is}
-use Rattle.std.specs.Int.{int_max}
-use Rattle.std.specs.List.{Contains, flat_map}
-use Rattle.std.specs.List.Sorted.{IsPermutation}
+use Rattle.std.specs.List.{Contains}
 use Rattle.std.specs.Ordering.{MatchOrdering, int_cmp, nat_cmp, ordering_then}
 use Rattle.std.specs.declared.cmp.Ordering.{Ordering}
 use Rattle.std.specs.declared.cmp.Ordering.TheVariants.{Less, Equal, Greater}
-use Rattle.std.proofs.lemmas.Bool.{cases_Bool, eq-eqb, false≢true, ne_eqb}
+use Rattle.std.proofs.lemmas.Bool.{cases_Bool, eq-eqb, ne_eqb}
 use Rattle.std.proofs.lemmas.Cmp.{nat_cmp_total, tied_itself}
 use Rattle.std.proofs.lemmas.Int.{ints}
 use Rattle.std.proofs.lemmas.List.Kept.{AllPairs-filter}
@@ -17,7 +15,7 @@ use Rattle.computed_style.specs.ByProperty.{kept_for}
 use Rattle.event_order.proofs.Ascending.{one_order}
 use Rattle.event_order.specs.Order.{IsInOrderOf}
 use Rattle.script_text.specs.declared.command.Command.{Command}
-use Rattle.script_text.specs.declared.command.Command.TheVariants.{Blank, Add, Insert, Remove, Id, Class, Style, Sheet, At, Frame, Get, List as Listing}
+use Rattle.script_text.specs.declared.command.Command.TheVariants.{Frame}
 use Rattle.style_data.specs.Events.{key_order, kind_number}
 use Rattle.style_data.specs.declared.event.Event.{Event}
 use Rattle.style_data.specs.declared.event.EventKind.TheVariants.{Cancel}
@@ -27,7 +25,7 @@ use Rattle.style_data.specs.declared.gone.Subject.TheVariants.{Property}
 use Rattle.style_data.specs.declared.transition.Phase.{Phase}
 use Rattle.style_data.specs.declared.transition.Phase.TheVariants.{Idle, Before, Active, After}
 use Rattle.style_data.specs.declared.transition.Transition.{Transition}
-use Rattle.ticker.specs.Events.{cancel_occurrences, cancelled_standing, is_cancel_told, occurrence, told_event, transition_standing}
+use Rattle.ticker.specs.Events.{cancelled_standing, is_cancel_told, occurrence, told_event, transition_standing}
 use Rattle.ticker.specs.Ticks.{cancel_events, position_in_tree, transition_events}
 use Rattle.ticker.specs.TransitionEvents.{transition_occurrences, transitionend, transitionrun, transitionstart}
 use Rattle.ticker.specs.declared.event.Occurrence.{Occurrence}

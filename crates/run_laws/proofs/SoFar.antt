@@ -1,7 +1,7 @@
 -- What was told of a transition so far, by where it stands: a tick, a style change event and an edit keep it.
-use Rattle.std.proofs.Common.{◌≡◌, ◌≢◌, ℕ, zero, suc, ◌+◌, ◌<◌, ◌≤◌, refl, ap, sym, ◌∙◌, inl, inr, subst, arith, Bool, true, false, Option, Some, None, List, [], ◌∷◌, ◌++◌, append-nil, append_assoc, filter, take, cond}
-use Rattle.std.specs.Prelude.{ℤ, ◌≤ℤ◌, ◌&&◌, ⊤, int_le, int_lt, nat_eq, option_and_then, option_map, if◌then◌else◌}
-use Rattle.std.proofs.lemmas.Bool.{cases_Bool, cases_eq, eq-eqb, ne_eqb}
+use Rattle.std.proofs.Common.{◌≡◌, ◌≢◌, ℕ, ◌+◌, ◌<◌, ◌≤◌, refl, ap, sym, ◌∙◌, inl, inr, subst, arith, Bool, true, false, Option, Some, None, List, [], ◌∷◌, ◌++◌, append-nil, filter, take}
+use Rattle.std.specs.Prelude.{ℤ, ◌≤ℤ◌, ⊤, int_le, int_lt, option_and_then, option_map, if◌then◌else◌}
+use Rattle.std.proofs.lemmas.Bool.{cases_eq, eq-eqb, ne_eqb}
 use Rattle.std.proofs.lemmas.Int.{ints}
 use Rattle.std.specs.List.{flat_map}
 use Rattle.std.specs.Option.{option_to_list}
@@ -18,7 +18,7 @@ use Rattle.ticker.specs.declared.event.Occurrence.{Occurrence}
 use Rattle.transition_start.specs.Phase.{phase_of}
 use Rattle.transition_start.specs.Results.{elapsed_at, gone_item}
 use Rattle.run_laws.specs.TransitionCourses.{IsCourse, IsCutOff, count_seen, transitioncancel}
-use Rattle.run_laws.specs.TransitionNames.{TransitionName, is_of_property}
+use Rattle.run_laws.specs.TransitionNames.{TransitionName}
 use Rattle.run_laws.proofs.Filtered.{same_number}
 use Rattle.run_laws.proofs.FrameEvents.{is_gone_of, told_gone, told_running}
 
