@@ -6,7 +6,7 @@ use Rattle.std.proofs.lemmas.Int.{ints, clamps}
 use Rattle.style_data.specs.declared.transition.Phase.TheVariants.{Before, Active, After}
 use Rattle.style_data.specs.declared.transition.Transition.{Transition}
 use Rattle.ticker.specs.Courses.{NeverFall, whole_course}
-use Rattle.ticker.specs.declared.event.Occurrence.{Occurrence}
+use Rattle.run_laws.specs.Occurrences.{Occurrence}
 use Rattle.run_laws.specs.TransitionCourses.{IsCourse, IsCourseOf, IsCutOff, count_seen, times_of, transitioncancel}
 
 one_rises : (a : ℤ) → NeverFall (a ∷ [])

@@ -20,12 +20,12 @@ use Rattle.ticker.specs.AnimationEvents.{animation_occurrences, animation_phase}
 use Rattle.ticker.specs.Events.{animation_standing, cancel_occurrences, cancelled_standing, told_event, transition_standing}
 use Rattle.ticker.specs.Ticks.{animation_events, cancel_events, effect_events, entry_events, position_in_tree, tick_events, transition_events}
 use Rattle.ticker.specs.TransitionEvents.{transition_occurrences}
-use Rattle.ticker.specs.declared.event.Occurrence.{Occurrence}
 use Rattle.ticker.specs.declared.event.Standing.{Standing}
 use Rattle.transition_start.specs.Phase.{phase_of}
 use Rattle.value_types.specs.declared.property.PropertyId.{PropertyId}
 use Rattle.restyle.specs.Entries.{are_apart, is_among}
 use Rattle.restyle.specs.StyleChanges.{entry_for}
+use Rattle.run_laws.specs.Occurrences.{Occurrence}
 use Rattle.run_laws.specs.TransitionNames.{TransitionName, generation_in, is_event_of, is_of_property, occurrence_told, told_of}
 use Rattle.run_laws.proofs.Filtered.{IsOnce, flat_without, is_for, none_flat, none_mapped, all_mapped, same_number}
 

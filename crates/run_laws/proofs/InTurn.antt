@@ -5,7 +5,7 @@ use Rattle.style_data.specs.declared.event.Event.{Event}
 use Rattle.style_data.specs.declared.event.EventKind.{EventKind}
 use Rattle.style_data.specs.declared.transition.Transition.{Transition}
 use Rattle.ticker.specs.Courses.{whole_course}
-use Rattle.ticker.specs.declared.event.Occurrence.{Occurrence}
+use Rattle.run_laws.specs.Occurrences.{Occurrence}
 use Rattle.run_laws.specs.TransitionCourses.{AreInTurn, IsCourse, IsCourseOf, IsCutOff, transitioncancel}
 use Rattle.run_laws.specs.TransitionNames.{occurrence_told}
 

@@ -29,7 +29,6 @@ use Rattle.style_data.specs.declared.transition.Phase.{Phase}
 use Rattle.style_data.specs.declared.transition.Transition.{Transition}
 use Rattle.ticker.specs.Events.{cancel_occurrences}
 use Rattle.ticker.specs.Ticks.{running_after, seen_in, still_running, ticked_entry}
-use Rattle.ticker.specs.declared.event.Occurrence.{Occurrence}
 use Rattle.transition_update.proofs.ByProperty.{by_property_has}
 use Rattle.transition_update.specs.Updates.{all_cancelled}
 use Rattle.restyle.specs.Documents.{last_place}
@@ -43,6 +42,7 @@ use Rattle.restyle.proofs.Outcomes.{value_for-map}
 use Rattle.restyle.proofs.QuietWorlds.{ticked_for}
 use Rattle.restyle.proofs.StillEntries.{ticked_parts}
 use Rattle.restyle.proofs.WorldEdits.{unused_where_new}
+use Rattle.run_laws.specs.Occurrences.{Occurrence}
 use Rattle.run_laws.specs.Runs.{HasRun, events_of_command, events_of_run, world_after_command, world_after_run, world_left_by}
 use Rattle.run_laws.specs.TransitionCourses.{IsCourse}
 use Rattle.run_laws.specs.TransitionNames.{TransitionName, is_event_of, occurrence_told, told_of}

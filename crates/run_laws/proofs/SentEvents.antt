@@ -28,12 +28,12 @@ use Rattle.style_data.specs.declared.transition.Transition.{Transition}
 use Rattle.ticker.specs.Events.{cancelled_standing, is_cancel_told, occurrence, told_event, transition_standing}
 use Rattle.ticker.specs.Ticks.{cancel_events, position_in_tree, transition_events}
 use Rattle.ticker.specs.TransitionEvents.{transition_occurrences, transitionend, transitionrun, transitionstart}
-use Rattle.ticker.specs.declared.event.Occurrence.{Occurrence}
 use Rattle.ticker.specs.declared.event.Standing.{Standing}
 use Rattle.transition_start.specs.Phase.{phase_of}
 use Rattle.restyle.specs.Entries.{are_apart}
 use Rattle.restyle.specs.StyleChanges.{entry_for}
 use Rattle.restyle.specs.Worlds.{WorldParts, events_of_frame, new_world}
+use Rattle.run_laws.specs.Occurrences.{Occurrence}
 use Rattle.run_laws.specs.Runs.{AreSent, events_of_command, events_of_run, world_after_command}
 use Rattle.run_laws.specs.TransitionNames.{TransitionName, is_event_of, occurrence_told, told_of}
 use Rattle.run_laws.proofs.CourseTimes.{by_max, maxes}

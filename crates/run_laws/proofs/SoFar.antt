@@ -14,9 +14,9 @@ use Rattle.ticker.specs.Courses.{whole_course}
 use Rattle.ticker.specs.Events.{cancel_occurrences, is_cancel_told, occurrence}
 use Rattle.ticker.specs.Ticks.{seen_in, still_running}
 use Rattle.ticker.specs.TransitionEvents.{transition_occurrences}
-use Rattle.ticker.specs.declared.event.Occurrence.{Occurrence}
 use Rattle.transition_start.specs.Phase.{phase_of}
 use Rattle.transition_start.specs.Results.{elapsed_at, gone_item}
+use Rattle.run_laws.specs.Occurrences.{Occurrence}
 use Rattle.run_laws.specs.TransitionCourses.{IsCourse, IsCutOff, count_seen, transitioncancel}
 use Rattle.run_laws.specs.TransitionNames.{TransitionName}
 use Rattle.run_laws.proofs.Filtered.{same_number}

@@ -1,3 +1,4 @@
+pub mod Occurrences
 pub mod Runs
 pub mod TransitionCourses
 pub mod TransitionNames

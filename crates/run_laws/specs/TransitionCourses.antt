@@ -7,9 +7,9 @@ use Rattle.style_data.specs.declared.transition.Phase.TheVariants.{Idle, Before,
 use Rattle.style_data.specs.declared.transition.Transition.{Transition}
 use Rattle.ticker.specs.Courses.{whole_course}
 use Rattle.ticker.specs.Events.{occurrence}
-use Rattle.ticker.specs.declared.event.Occurrence.{Occurrence}
 use Rattle.transition_start.specs.Phase.{phase_of}
 use Rattle.transition_start.specs.Results.{elapsed_at}
+use Rattle.run_laws.specs.Occurrences.{Occurrence}
 
 -- it is cancelled at this time
 abbrev pub transitioncancel : Transition → ℤ → Occurrence

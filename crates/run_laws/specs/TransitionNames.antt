@@ -3,9 +3,9 @@ use Rattle.std.specs.Prelude.{ℕ, Bool, false, nat_eq, ◌&&◌, List, filter, 
 use Rattle.style_data.specs.declared.event.Event.{Event}
 use Rattle.style_data.specs.declared.gone.Subject.{Subject}
 use Rattle.style_data.specs.declared.gone.Subject.TheVariants.{Property, Animation}
-use Rattle.ticker.specs.declared.event.Occurrence.{Occurrence}
 use Rattle.value_types.specs.Properties.{number_of}
 use Rattle.value_types.specs.declared.property.PropertyId.{PropertyId}
+use Rattle.run_laws.specs.Occurrences.{Occurrence}
 
 -- a transition by its element, its property and the number of the frame that started it: a frame starts one at most for a property of an element
 pub record TransitionName : Type 0 where
