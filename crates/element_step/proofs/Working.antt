@@ -1,6 +1,6 @@
 -- An element's update in the event of a document, from its parts.
-use Rattle.std.proofs.Common.{◌≡◌, ◌∙◌, refl, ap, arith, ℕ, Bool, true, false, List, [], ◌∷◌, length, Option}
-use Rattle.std.specs.Prelude.{◌==◌}
+use Rattle.std.proofs.Common.{◌≡◌, ◌∙◌, refl, ap, arith, ℕ, Bool, true, false, ◌&&◌, List, [], ◌∷◌, length, Option, Some}
+use Rattle.std.specs.Prelude.{◌==◌, unwrap_or}
 use Rattle.std.proofs.lemmas.Bool.{eqb-true}
 use Rattle.animation_names.specs.Numbered.{given_below}
 use Rattle.animation_names.specs.Updates.{animations_after, gone_after, paired_of}
@@ -16,9 +16,11 @@ use Rattle.style_data.specs.Entries.{EntryParts}
 use Rattle.style_data.specs.declared.animation.AnimationState.{AnimationState}
 use Rattle.timing_types.specs.TimingLists.{AnimationValues, initial_animations}
 use Rattle.transition_update.specs.declared.event.StyleChangeEvent.{StyleChangeEvent}
+use Rattle.element_step.specs.Quiet.{handed_at_rest, is_at_rest, moving_step, quiet_down, quiet_outcome}
 use Rattle.element_step.specs.Rendering.{is_rendered}
 use Rattle.element_step.specs.Updates.{element_update}
-use Rattle.element_step.specs.Works.{DocumentEvent, animated_values_in, animation_lists_after, animations_before, animations_updated, element_declarations, handed_by, entry_at, event_at, from_parent, outcome_in, paired_at, update_at}
+use Rattle.element_step.specs.Works.{DocumentEvent, animated_values_in, animation_lists_after, animations_before, animations_updated, element_declarations, handed_by, entry_at, event_at, from_parent, outcome_in, paired_at, top_down, update_at}
+use Rattle.element_step.specs.declared.quiet.QuietDown.{QuietDown}
 
 -- ---- animations
 
@@ -67,6 +69,18 @@ pub inside_is : (w : DocumentEvent) (n : ℕ) (entry : EntryParts) (down : Down)
     → Updated (entry_at w n entry (from_parent w n down)) (handed_by w n entry (from_parent w n down)) ≡ outcome_in w n entry down
 unfolding outcome_in
 inside_is w n entry down is = rw is refl
+
+-- ---- the outcome in a quiet event
+
+pub at_rest_is : (w : DocumentEvent) (n : ℕ) (entry : EntryParts) (down : QuietDown) → (down.rests && is_at_rest entry) ≡ true
+    → Kept (quiet_down (Some (handed_at_rest entry down.parent)) true) ≡ quiet_outcome w n entry down
+unfolding quiet_outcome
+at_rest_is w n entry down is = rw is refl
+
+pub in_motion_is : (w : DocumentEvent) (n : ℕ) (entry : EntryParts) (down : QuietDown) → (down.rests && is_at_rest entry) ≡ false
+    → moving_step (outcome_in w n entry (unwrap_or down.parent top_down)) ≡ quiet_outcome w n entry down
+unfolding quiet_outcome
+in_motion_is w n entry down is = rw is refl
 
 -- nothing is left of an empty list
 pub empty_of : {X : Type 0} (xs : List X) → (length xs == 0) ≡ true → xs ≡ []

@@ -1,3 +1,4 @@
+pub mod Quiet
 pub mod Rendering
 pub mod Restyling
 pub mod Settling

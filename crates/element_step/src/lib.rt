@@ -7,6 +7,7 @@
 
 mod downs;
 mod laws;
+mod quiet;
 mod rendering;
 mod restyle;
 mod settling;
@@ -14,6 +15,7 @@ mod update;
 mod work;
 
 pub use laws::transitions_want_rendering;
+pub use quiet::{QuietDown, QuietWork};
 pub use rendering::is_rendered;
 pub use update::{ElementUpdated, update_entry};
 pub use work::{ElementWork, settled, update_element};

@@ -128,7 +128,7 @@ impl TreeWork for ElementWork {
 }
 
 /// What is handed down to an element whose parent isn't in the plan: the initial values.
-fn top() -> Down
+pub(crate) fn top() -> Down
     ensures { result ≡ top_down }
 {
     Down {

@@ -1,0 +1,48 @@
+-- Elements at rest: where nothing has changed since the event before but the time, the update of such an element under ancestors at rest leaves its
+-- entry as it is (CSS Transitions 1, section 3 "Starting of transitions").
+use Rattle.std.specs.Prelude.{ℕ, ◌==◌, Bool, true, false, ◌&&◌, length, Option, None, Some, unwrap_or, if◌then◌else◌}
+use Rattle.change_styles.specs.Inheritance.{handed_down}
+use Rattle.computed_style.specs.declared.inherited.Down.{Down}
+use Rattle.computed_style.specs.declared.inherited.InheritedValues.{InheritedValues}
+use Rattle.pass_core.specs.Work.{Meaning}
+use Rattle.pass_core.specs.declared.step.Step.{Step}
+use Rattle.pass_core.specs.declared.step.Step.TheVariants.{Kept, Updated}
+use Rattle.style_data.specs.Entries.{EffectLists, EntryParts}
+use Rattle.element_step.specs.Updates.{now_parent}
+use Rattle.element_step.specs.Works.{DocumentEvent, outcome_in, top_down}
+use Rattle.element_step.specs.declared.quiet.QuietDown.{QuietDown}
+
+-- there is no transition and no animation, and nothing that was cancelled waits for its event
+abbrev pub has_no_effects : EffectLists → Bool
+has_no_effects e = (length e.transitions.running == 0) && (length e.transitions.completed == 0) && (length e.animations == 0) && (length e.gone == 0)
+
+-- the element is at rest: a frame has styled it, nothing of it will change by time alone, and it has no effects
+abbrev pub is_at_rest : EntryParts → Bool
+is_at_rest e = e.styled && e.settled && has_no_effects e.effects
+
+-- what is handed down by an element whose three styles are one, which hands down this
+abbrev pub down_of_one : Bool → InheritedValues → Down
+down_of_one rendered now = record { before = (if rendered then Some now else None); after = now; now = now; rendered = rendered; changed = false }
+
+-- what an element at rest hands down, under a parent that hands this down
+abbrev pub handed_at_rest : EntryParts → Option Down → Down
+handed_at_rest entry parent = down_of_one entry.rendered (handed_down (now_parent parent) entry.now)
+
+-- what an element hands down, and whether it and its ancestors are at rest
+abbrev pub quiet_down : Option Down → Bool → QuietDown
+quiet_down parent rests = record { parent = parent; rests = rests }
+
+-- the same outcome, of an element that isn't at rest, or stands under one that isn't
+abbrev pub moving_step : Step EntryParts Down → Step EntryParts QuietDown
+moving_step (Updated entry down) = Updated entry (quiet_down (Some down) false)
+moving_step (Kept down) = Kept (quiet_down (Some down) false)
+
+-- the outcome of an element's update: where it and its ancestors are at rest it is kept
+unfoldable pub quiet_outcome : DocumentEvent → ℕ → EntryParts → QuietDown → Step EntryParts QuietDown
+quiet_outcome w n entry down =
+    (if down.rests && is_at_rest entry then Kept (quiet_down (Some (handed_at_rest entry down.parent)) true)
+    else moving_step (outcome_in w n entry (unwrap_or down.parent top_down)))
+
+-- an element whose parent isn't in the plan has none that moves, where the event is quiet
+abbrev pub quiet_meaning : Bool → DocumentEvent → Meaning EntryParts QuietDown
+quiet_meaning quiet w = record { outcome = quiet_outcome w; top = quiet_down None quiet }
