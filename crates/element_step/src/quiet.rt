@@ -139,7 +139,7 @@ fn handed_at_rest(entry: &Entry, parent: Option<&Down>) -> Down
     ensures { result ≡ handed_at_rest entry.now (option_copied parent.entry) }
 {
     let above = now_parent(parent);
-    let now = handed_down(entry.now(), above.as_ref());
+    let now = handed_down(entry.now(), above);
     let rendered = entry.rendered();
     Down {
         before: before_at_rest(rendered, now),
