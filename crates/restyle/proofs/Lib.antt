@@ -3,6 +3,7 @@ pub mod AnimationOrigins
 pub mod DistinctTicks
 pub mod EditOrigins
 pub mod EffectCounts
+pub mod ElementsAtRest
 pub mod EventOrigins
 pub mod FirstEvents
 pub mod FrameOrigins
@@ -16,6 +17,7 @@ pub mod ProperPlans
 pub mod Questions
 pub mod QuietEvents
 pub mod QuietFrames
+pub mod QuietPasses
 pub mod QuietUpdates
 pub mod QuietWorlds
 pub mod Reordering

@@ -1,25 +1,22 @@
 -- The outcome of a pass over the whole document is its style change event.
-use Rattle.std.proofs.Common.{◌≡◌, ℕ, refl, ap, sym, ◌∙◌, eqb, inl, inr, Bool, true, false, not, ◌&&◌, ◌||◌, List, [], ◌∷◌, ◌++◌, length, map, Option, Some, None}
+use Rattle.std.proofs.Common.{◌≡◌, ℕ, refl, ap, sym, ◌∙◌, subst, eqb, inl, inr, Bool, true, false, not, ◌&&◌, ◌||◌, List, [], ◌∷◌, ◌++◌, length, map, Option, Some, None}
 use Rattle.std.specs.Prelude.{is_some, option_map, slice_get, unwrap_or, if◌then◌else◌}
 use Rattle.std.specs.List.{find, list_all, list_any}
 use Rattle.std.specs.Option.{option_and_then, option_map_or}
 use Rattle.std.proofs.lemmas.Bool.{cases_Bool, eq-eqb, eqb-true, or_parts, or_left, and_from}
-use Rattle.computed_style.specs.declared.inherited.Down.{Down}
 use Rattle.doc_tree.specs.Element.{Document, Element, inclusive_ancestors, is_in, numbers_of, position_of}
 use Rattle.doc_tree.specs.Shape.{IsTree}
-use Rattle.element_step.specs.Works.{DocumentEvent, handed_by, element_meaning, entry_at, from_parent, outcome_in}
-use Rattle.pass_core.specs.Passes.{IsPassOutcome, IsResult, are_distinct, at_top, below, have_entries, value_for}
+use Rattle.element_step.specs.Works.{DocumentEvent}
+use Rattle.pass_core.specs.Passes.{IsPassOutcome, IsResult, are_distinct, have_entries, value_for}
 use Rattle.pass_core.specs.Plans.{planned_place}
-use Rattle.pass_core.specs.Work.{down_of, entry_after}
+use Rattle.pass_core.specs.Work.{Meaning, entry_after}
 use Rattle.pass_core.specs.declared.plan.Place.{Place}
 use Rattle.pass_core.specs.declared.step.Step.{Step}
-use Rattle.pass_core.specs.declared.step.Step.TheVariants.{Kept, Updated}
 use Rattle.style_data.specs.Entries.{EntryParts, fresh_entry}
-use Rattle.restyle.specs.StyleChanges.{ancestors_of, entry_after_event, entry_for}
+use Rattle.restyle.specs.StyleChanges.{entry_after_event, entry_for}
 use Rattle.restyle.specs.TreePlans.{element_place, places_of}
-use Rattle.restyle.proofs.AncestorChains.{chain_begins, found, parent_found, there}
-use Rattle.restyle.proofs.ProperPlans.{TreeLaws, absent, next_split, parent_before, place_there, split_at}
-use Rattle.restyle.proofs.StylesAlong.{downs_along, entry_along}
+use Rattle.restyle.proofs.AncestorChains.{found, there}
+use Rattle.restyle.proofs.ProperPlans.{TreeLaws, absent, next_split, split_at}
 
 -- ---- lists by element
 
@@ -128,88 +125,29 @@ find-map p f (x ∷ xs) =
       | inr other ↦ rw other (find-map p f xs)
     ]
 
--- ---- the outcome of each place
+-- ---- the outcome of a pass
+
+map_value : (f : EntryParts → EntryParts) (y : EntryParts) (o : Option EntryParts) → f (unwrap_or o fresh_entry) ≡ y → option_map f o ≡ option_map (λ _. y) o
+map_value f y None is = refl
+map_value f y (Some x) is = ap Some is
 
 module _ (w : DocumentEvent) (tree : IsTree w.document) (laws : TreeLaws) (entries : List (ℕ × EntryParts)) where
   abbrev d : Document
   d = w.document
 
-  -- an element's update over what its ancestors hand down
-  abbrev handed_to : ℕ → Option Down
-  handed_to n = downs_along w entries (ancestors_of d n)
+  planned : (before after : List Element) (e : Element) → d.elements ≡ before ++ e ∷ after → planned_place (places_of d) e.number ≡ Some (element_place d e)
+  planned before after e is =
+      find-map (λ (p : Place). eqb p.element e.number) (element_place d) d.elements ∙ ap (option_map (element_place d)) (found d tree laws before after e is)
 
-  abbrev updated : ℕ → Step EntryParts Down
-  updated n = Updated (entry_at w n (entry_for entries n) (handed_to n)) (handed_by w n (entry_for entries n) (handed_to n))
+  -- each element's result leaves its entry after the event
+  abbrev pub AreAfterEvent : {D : Type 0} → Meaning EntryParts D → Type 0
+  AreAfterEvent {D} m = (before after : List Element) (e : Element) (s : Step EntryParts D) → d.elements ≡ before ++ e ∷ after
+      → IsResult m (places_of d) entries (element_place d e) s → entry_after s (entry_for entries e.number) ≡ entry_after_event w entries e.number
 
-  module _ (before after : List Element) (e : Element) (is : d.elements ≡ before ++ e ∷ after) where
-    planned : planned_place (places_of d) e.number ≡ Some (element_place d e)
-    planned = find-map (λ (p : Place). eqb p.element e.number) (element_place d) d.elements ∙ ap (option_map (element_place d)) (found d tree laws before after e is)
-
-    -- the outcome over what the parent's place hands down
-    outcome_over : (x : EntryParts) (down : Down) (parent : Option Down) → value_for entries e.number ≡ Some x → option_map (λ _. down) e.parent ≡ parent → parent ≡ handed_to e.number
-        → outcome_in w e.number x down ≡ updated e.number
-    unfolding outcome_in
-    outcome_over x down parent value from is_handed =
-        ap (λ b. if b then Updated (entry_at w e.number x (from_parent w e.number down)) (handed_by w e.number x (from_parent w e.number down)) else Kept down) (there d tree laws before after e is)
-        ∙ ap (λ o. Updated (entry_at w e.number x o) (handed_by w e.number x o)) (ap (option_map (λ _. down)) (parent_found d tree laws before after e is) ∙ from ∙ is_handed)
-        ∙ ap (λ v. Updated (entry_at w e.number v (handed_to e.number)) (handed_by w e.number v (handed_to e.number))) (sym (ap (λ o. unwrap_or o fresh_entry) value))
-
-  -- ---- and of all
-
-  nothing_handed : downs_along w entries [] ≡ None
-  unfolding downs_along
-  nothing_handed = refl
-
-  handed_on : (a : Element) (above : List Element) → downs_along w entries (a ∷ above) ≡ Some (handed_by w a.number (entry_for entries a.number) (downs_along w entries above))
-  unfolding downs_along
-  handed_on a above = refl
-
-  abbrev IsUpdated : Place → Step EntryParts Down → Type 0
-  IsUpdated p s = (before after : List Element) (e : Element) → d.elements ≡ before ++ e ∷ after → p ≡ element_place d e → s ≡ updated e.number
-
-  top_updated : (p : Place) (x : EntryParts) → p.parent ≡ None → value_for entries p.element ≡ Some x → IsUpdated p (outcome_in w p.element x (element_meaning w).top)
-  top_updated p x none value before after e is place =
-      let value_e = ap (λ (q : Place). value_for entries q.element) (sym place) ∙ value in
-      ap (λ (q : Place). outcome_in w q.element x (element_meaning w).top) place ∙ at e.parent refl (sym (ap (λ (q : Place). q.parent) place) ∙ none) value_e
-    where
-      at : (o : Option ℕ) → e.parent ≡ o → (element_place d e).parent ≡ None → value_for entries e.number ≡ Some x → outcome_in w e.number x (element_meaning w).top ≡ updated e.number
-      at None root none value_e =
-          outcome_over before after e is x (element_meaning w).top None value_e (ap (option_map (λ _. (element_meaning w).top)) root)
-          (sym (ap (λ o. downs_along w entries (option_map_or (inclusive_ancestors d.elements) o [])) (parent_found d tree laws before after e is ∙ root) ∙ nothing_handed))
-      at (Some p) parent none value_e =
-          absurd (let q = parent_before d tree laws before after e p is parent in
-          let e : Some (length q.front) ≡ None = sym (ap (option_and_then (λ p. position_of p d)) parent ∙ q.position) ∙ none in cc)
-
-  below_updated : (p q : Place) (i : ℕ) (x : EntryParts) (s : Step EntryParts Down) → p.parent ≡ Some i → slice_get (places_of d) i ≡ Some q → IsUpdated q s
-      → value_for entries p.element ≡ Some x → IsUpdated p (outcome_in w p.element x (down_of s))
-  below_updated p q i x s parent_at place_at is_updated value before after e is place =
-      let value_e = ap (λ (r : Place). value_for entries r.element) (sym place) ∙ value in
-      ap (λ (r : Place). outcome_in w r.element x (down_of s)) place ∙ at e.parent refl (sym (ap (λ (r : Place). r.parent) place) ∙ parent_at) value_e
-    where
-      at : (o : Option ℕ) → e.parent ≡ o → (element_place d e).parent ≡ Some i → value_for entries e.number ≡ Some x → outcome_in w e.number x (down_of s) ≡ updated e.number
-      at None root some value_e = absurd (let e : None ≡ Some i = sym (ap (option_and_then (λ p. position_of p d)) root) ∙ some in cc)
-      at (Some n) parent some value_e =
-          let a = parent_before d tree laws before after e n is parent in
-          let index : Some (length a.front) ≡ Some i = sym (ap (option_and_then (λ p. position_of p d)) parent ∙ a.position) ∙ some in
-          let same_index : length a.front ≡ i = cc in
-          let place_q : Some q ≡ Some (element_place d a.item) =
-          sym place_at ∙ ap (slice_get (places_of d)) (sym same_index) ∙ place_there d tree laws a.front a.rest a.item a.is in
-          let q_is : q ≡ element_place d a.item = cc in
-          let s_is : s ≡ updated a.item.number = is_updated a.front a.rest a.item a.is q_is in
-          let chain : ancestors_of d e.number ≡ a.item ∷ ancestors_of d a.item.number =
-          ap (λ o. option_map_or (inclusive_ancestors d.elements) o []) (parent_found d tree laws before after e is ∙ parent) ∙ ap (inclusive_ancestors d.elements) (sym a.number)
-          ∙ chain_begins d tree laws a.front a.rest a.item a.is in
-          outcome_over before after e is x (down_of s) (Some (down_of s)) value_e (ap (option_map (λ _. down_of s)) parent)
-          (ap (λ t. Some (down_of t)) s_is ∙ sym (ap (downs_along w entries) chain ∙ handed_on a.item (ancestors_of d a.item.number)))
-
-  result_updated : (p : Place) (s : Step EntryParts Down) → IsResult (element_meaning w) (places_of d) entries p s → IsUpdated p s
-  result_updated p s (at_top _ x none value) = top_updated p x none value
-  result_updated p s (below _ q i x t parent place result value) = below_updated p q i x t parent place (result_updated q t result) value
-
-  -- the entries after the pass are those after the event
-  pub whole_event : (closing : List (ℕ × EntryParts)) → map (λ x. x.0) entries ≡ numbers_of d.elements → are_distinct entries ≡ true
-      → IsPassOutcome (element_meaning w) (places_of d) entries closing → closing ≡ map (λ x. (x.0, entry_after_event w entries x.0)) entries
-  whole_event closing numbers once outcome =
+  -- so the entries after the pass are those after the event
+  pub whole_event : {D : Type 0} (m : Meaning EntryParts D) (closing : List (ℕ × EntryParts)) → AreAfterEvent m → map (λ x. x.0) entries ≡ numbers_of d.elements
+      → are_distinct entries ≡ true → IsPassOutcome m (places_of d) entries closing → closing ≡ map (λ x. (x.0, entry_after_event w entries x.0)) entries
+  whole_event {D} m closing each numbers once outcome =
       same_lists closing (map (λ x. (x.0, entry_after_event w entries x.0)) entries) (outcome.elements ∙ sym (elements_kept (entry_after_event w entries) entries))
       (distinct_alike closing entries outcome.elements ∙ once) alike
     where
@@ -220,10 +158,9 @@ module _ (w : DocumentEvent) (tree : IsTree w.document) (laws : TreeLaws) (entri
                 (let s = split_at n d.elements within in
                 let plan : planned_place (places_of d) n ≡ Some (element_place d s.item) = ap (planned_place (places_of d)) (sym s.number) ∙ planned s.before s.after s.item s.is in
                 let own = outcome.planned n (element_place d s.item) plan in
-                let step : own.0 ≡ updated n = result_updated (element_place d s.item) own.0 own.1 s.before s.after s.item s.is refl ∙ ap updated s.number in
-                own.2 ∙ ap (λ t. option_map (entry_after t) (value_for entries n)) step
-                ∙ ap (λ v. option_map (λ _. v) (value_for entries n)) (entry_along w entries n (entry_for entries n) (ancestors_of d n))
-                ∙ sym (value_for-map (entry_after_event w entries) entries n))
+                let step : entry_after own.0 (entry_for entries n) ≡ entry_after_event w entries n =
+                subst (λ m. entry_after own.0 (entry_for entries m) ≡ entry_after_event w entries m) s.number (each s.before s.after s.item own.0 s.is own.1) in
+                own.2 ∙ map_value (entry_after own.0) (entry_after_event w entries n) (value_for entries n) step ∙ sym (value_for-map (entry_after_event w entries) entries n))
             | inr without ↦
                 (let gone : value_for entries n ≡ None = none_from (value_for entries n) (value_there entries d.elements numbers n ∙ without) in
                 let plan : planned_place (places_of d) n ≡ None =

@@ -1,13 +1,15 @@
 -- What an event leaves of elements at rest, where nothing has changed since the event before.
-use Rattle.std.proofs.Common.{◌≡◌, ℕ, refl, ap, sym, ◌∙◌, subst, Bool, true, ◌&&◌, List, [], ◌∷◌, Option, Some, None}
+use Rattle.std.proofs.Common.{◌≡◌, ℕ, refl, ap, sym, ◌∙◌, subst, Bool, true, false, ◌&&◌, List, [], ◌∷◌, Option, Some, None}
 use Rattle.std.specs.Prelude.{ℤ, All, IsSome, option_map, if◌then◌else◌}
 use Rattle.std.proofs.lemmas.Bool.{and_parts}
 use Rattle.std.proofs.lemmas.List.Elements.{All-head, All-tail}
 use Rattle.animation_names.specs.Updates.{AreAnimationsOf}
-use Rattle.change_styles.specs.Inheritance.{inherited_from, with_child}
+use Rattle.change_styles.specs.Inheritance.{handed_down, inherited_from, with_child}
 use Rattle.computed_style.specs.Winners.{Declarations}
 use Rattle.computed_style.specs.declared.inherited.Down.{Down}
+use Rattle.computed_style.specs.declared.inherited.InheritedValues.{InheritedValues}
 use Rattle.doc_tree.specs.Element.{Element, is_in}
+use Rattle.element_step.specs.Quiet.{down_of_one, handed_at_rest}
 use Rattle.element_step.specs.Rendering.{is_displayed, is_rendered}
 use Rattle.element_step.specs.Updates.{ElementUpdate, after_of, now_of, now_parent, rendered_after}
 use Rattle.element_step.specs.Works.{DocumentEvent, animation_lists_after, element_declarations, entry_at, event_at, update_at}
@@ -17,8 +19,8 @@ use Rattle.style_data.specs.Entries.{EffectLists, EntryParts}
 use Rattle.restyle.specs.Rest.{IsStill}
 use Rattle.restyle.specs.StyleChanges.{StylesAbove, after_above, ancestors_of, before_above, before_of, entry_after_event, entry_for, inherited_above, now_above, styles_along, styles_below}
 use Rattle.restyle.proofs.AncestorChains.{IsChain}
-use Rattle.restyle.proofs.QuietUpdates.{InheritsOne, StaysSame, StillLaws, quiet_event, same_after, same_before, same_entry, same_now, same_update, stays, still_style, still_update, still_values}
-use Rattle.restyle.proofs.StylesAlong.{after_inherited, before_inherited, now_inherited}
+use Rattle.restyle.proofs.QuietUpdates.{InheritsOne, StaysSame, StillLaws, one_style, quiet_event, same_after, same_before, same_entry, same_now, same_update, stays, stays_settled, still_style, still_update, still_values}
+use Rattle.restyle.proofs.StylesAlong.{after_inherited, before_inherited, handed, made, now_inherited}
 
 -- ---- what elements stand under
 
@@ -155,6 +157,57 @@ module _ (laws : StillLaws) (w : DocumentEvent) (t : Micros) (generation : ℕ) 
       subst (StaysSame e) (sym (same_entry laws w t generation root n e parent left.declared shown left.animations))
       (stays laws e parent (still_values w t.0 e) _ root (event_at (quiet_event w t generation root) n) left.still.transitions shown one left.style left.styled)
 
+  pub settled_under : e.effects.animations ≡ [] → (entry_at (quiet_event w t generation root) n e parent).settled ≡ true
+  settled_under none =
+      subst (λ (y : EntryParts). y.settled ≡ true) (sym (same_entry laws w t generation root n e parent left.declared shown left.animations))
+      (stays_settled laws e parent (still_values w t.0 e) _ root (event_at (quiet_event w t generation root) n) left.still.transitions shown one left.style none)
+
+  -- ---- what it hands down
+
+  -- what its current style hands down
+  abbrev handed_one : InheritedValues
+  handed_one = inherited_from (with_child (now_above b) e.now)
+
+  one_handed : handed_down (now_parent parent) e.now ≡ handed_one
+  one_handed = ap (λ p. handed_down p e.now) (now_inherited b) ∙ handed (now_above b) e.now
+
+  now_one : now_of x ≡ e.now
+  now_one = now_is ∙ sym left.now
+
+  before_one : option_map inherited_from (if e.rendered then Some (with_child (before_above b) (before_of x)) else None) ≡ (if e.rendered then Some handed_one else None)
+  before_one = at e.rendered refl
+    where
+      at : (r : Bool) → e.rendered ≡ r → option_map inherited_from (if r then Some (with_child (before_above b) (before_of x)) else None) ≡ (if r then Some handed_one else None)
+      at true on =
+          ap (λ above. Some (inherited_from (with_child above (before_of x)))) (before_alike e.declared a b quiet (shown_now on) ∙ sym (now_alike a b quiet))
+          ∙ ap (λ s. Some (inherited_from (with_child (now_above b) s))) (before_is on ∙ sym left.now)
+      at false off = refl
+
+  after_one : inherited_from (with_child (if rendered_after x then after_above b else now_above b) (after_of x)) ≡ handed_one
+  after_one =
+      at e.rendered refl
+      ∙ ap (λ s. inherited_from (with_child (now_above b) s))
+      (one_style laws e parent (still_values w t.0 e) _ root (event_at (quiet_event w t generation root) n) left.still.transitions shown one left.style ∙ now_one)
+    where
+      at : (r : Bool) → e.rendered ≡ r
+          → inherited_from (with_child (if rendered_after x then after_above b else now_above b) (after_of x)) ≡ inherited_from (with_child (now_above b) (after_of x))
+      at true on =
+          ap (λ r. inherited_from (with_child (if r then after_above b else now_above b) (after_of x))) (shown_now on)
+          ∙ ap (λ above. inherited_from (with_child above (after_of x))) (after_alike e.declared a b quiet (shown_now on) ∙ sym (now_alike a b quiet))
+      at false off = ap (λ r. inherited_from (with_child (if r then after_above b else now_above b) (after_of x))) (shown ∙ off)
+
+  below_handed : inherited_above (styles_below b x) ≡ handed_at_rest e parent
+  unfolding styles_below made
+  below_handed =
+      ap (λ i. made i (inherited_from (with_child (if rendered_after x then after_above b else now_above b) (after_of x))) (inherited_from (with_child (now_above b) (now_of x))) (rendered_after x)) before_one
+      ∙ ap (λ i. made (if e.rendered then Some handed_one else None) i (inherited_from (with_child (now_above b) (now_of x))) (rendered_after x)) after_one
+      ∙ ap (λ s. made (if e.rendered then Some handed_one else None) handed_one (inherited_from (with_child (now_above b) s)) (rendered_after x)) now_one
+      ∙ ap (made (if e.rendered then Some handed_one else None) handed_one handed_one) shown ∙ ap (λ i. down_of_one e.rendered i) (sym one_handed)
+
+  pub handed_under : inherited_above (styles_below b (update_at (quiet_event w t generation root) n e parent)) ≡ handed_at_rest e parent
+  handed_under =
+      subst (λ y. inherited_above (styles_below b y) ≡ handed_at_rest e parent) (sym (same_update laws w t generation root n e parent left.declared shown left.animations)) below_handed
+
 -- ---- an element and its ancestors
 
 still_as : (a b : EntryParts) → b.effects ≡ a.effects → IsStill a → IsStill b
@@ -198,3 +251,20 @@ module _ (laws : StillLaws) (w : DocumentEvent) (t : Micros) (generation : ℕ) 
   pub still_first : (a : Element) (above : List Element) → IsChain w.document (a ∷ above) → AllAtRest (a ∷ above) → IsStill (entry_after_event next entries a.number)
   still_first a above chain rest =
       still_as (entry_for entries a.number) (entry_after_event next entries a.number) (stays_first a above chain rest).effects (left_first a above chain rest).still
+
+  -- it is settled again, where it has no animation
+  pub settled_first : (a : Element) (above : List Element) → IsChain w.document (a ∷ above) → AllAtRest (a ∷ above) → (entry_for entries a.number).effects.animations ≡ []
+      → (entry_after_event next entries a.number).settled ≡ true
+  settled_first a above chain rest none =
+      subst (λ c. (entry_at next a.number (entry_for entries a.number) (option_map inherited_above (styles_along next entries c))).settled ≡ true) (sym chain.1)
+      (settled_under laws w t generation root a.number (entry_for opening a.number) (entry_for entries a.number) (styles_along w opening above) (styles_along next entries above)
+      (quiet_along above chain.2 (All-tail (λ (x : Element). IsAtRest x.number) a above rest)) (left_first a above chain rest) none)
+
+  -- and what it hands down is what its entry tells
+  pub handed_first : (a : Element) (above : List Element) → IsChain w.document (a ∷ above) → AllAtRest (a ∷ above)
+      → option_map inherited_above (styles_along next entries (a ∷ above))
+      ≡ Some (handed_at_rest (entry_for entries a.number) (option_map inherited_above (styles_along next entries above)))
+  handed_first a above chain rest =
+      ap Some
+      (handed_under laws w t generation root a.number (entry_for opening a.number) (entry_for entries a.number) (styles_along w opening above) (styles_along next entries above)
+      (quiet_along above chain.2 (All-tail (λ (x : Element). IsAtRest x.number) a above rest)) (left_first a above chain rest))

@@ -1,6 +1,7 @@
 -- An element's update where nothing has changed since the event before, none of its transitions runs or has completed, and its animations are paused.
-use Rattle.std.proofs.Common.{◌≡◌, ℕ, refl, ap, sym, ◌∙◌, append-nil, Bool, true, false, List, [], ◌++◌, Option}
-use Rattle.std.specs.Prelude.{ℤ, All, IsSome, if◌then◌else◌}
+use Rattle.std.proofs.Common.{◌≡◌, ℕ, refl, ap, sym, ◌∙◌, append-nil, Bool, true, false, ◌&&◌, List, [], ◌++◌, length, Option}
+use Rattle.std.specs.Prelude.{ℤ, ◌==◌, All, IsSome, if◌then◌else◌}
+use Rattle.std.specs.List.{list_all}
 use Rattle.animation_names.specs.NameLists.{NamesUpdate, names_update}
 use Rattle.animation_names.specs.Samples.{samples_of}
 use Rattle.animation_names.specs.Updates.{AreAnimationsOf, PairedLists, animations_after, gone_after, paired_of}
@@ -11,7 +12,9 @@ use Rattle.computed_style.specs.Winners.{Declarations}
 use Rattle.computed_style.specs.declared.inherited.Down.{Down}
 use Rattle.computed_style.specs.declared.inherited.InheritedValues.{InheritedValues}
 use Rattle.element_step.specs.Rendering.{is_rendered}
-use Rattle.element_step.specs.Updates.{ElementUpdate, after_of, after_parent, before_parent, cancelled_from, cancelled_of, change_in, element_update, entry_after, now_of, now_parent, rendered_after, transitions_from, transitions_of}
+use Rattle.element_step.proofs.Rendered.{same_itself}
+use Rattle.element_step.specs.Settling.{has_ended, have_same_values}
+use Rattle.element_step.specs.Updates.{ElementUpdate, after_of, after_parent, before_parent, cancelled_from, cancelled_of, change_in, element_update, entry_after, now_of, now_parent, rendered_after, settled_after, transitions_from, transitions_of}
 use Rattle.element_step.specs.Works.{DocumentEvent, animated_values_in, animation_lists_after, animations_before, animations_updated, document_event, element_declarations, entry_at, event_at, paired_at, update_at}
 use Rattle.fix_num.specs.declared.units.Fix.{Fix}
 use Rattle.fix_num.specs.declared.units.Micros.{Micros}
@@ -24,6 +27,7 @@ use Rattle.style_data.specs.declared.gone.Gone.{Gone}
 use Rattle.timing_types.specs.TimingLists.{AnimationValues}
 use Rattle.transition_update.specs.Updates.{StyleChange, all_cancelled, cancelled_by, transitions_after}
 use Rattle.transition_update.specs.declared.event.StyleChangeEvent.{StyleChangeEvent}
+use Rattle.value_types.specs.Properties.{all_properties}
 use Rattle.value_types.specs.declared.property.PropertyId.{PropertyId}
 use Rattle.restyle.specs.Rest.{GiveTheSame}
 use Rattle.restyle.specs.StyleChanges.{before_of}
@@ -114,6 +118,23 @@ module _ (laws : StillLaws) (e : EntryParts) (parent : Option Down) (values : An
   unfolding after_of
   same_after on =
       ap (λ b. if b then after_change_style e.declared values (after_parent parent) else now_of x) (rendered ∙ on) ∙ after_is on ∙ sym (style_on on)
+
+  -- the after-change style is the current one
+  pub one_style : after_of x ≡ now_of x
+  unfolding after_of
+  one_style = at e.rendered refl
+    where
+      at : (b : Bool) → e.rendered ≡ b → (if rendered_after x then after_change_style e.declared values (after_parent parent) else now_of x) ≡ now_of x
+      at true on = same_after on ∙ sym same_now
+      at false off = ap (λ b. if b then after_change_style e.declared values (after_parent parent) else now_of x) (rendered ∙ off)
+
+  -- so it is settled, where it has no animation
+  pub stays_settled : e.effects.animations ≡ [] → (entry_after x []).settled ≡ true
+  unfolding entry_after settled_after
+  stays_settled none_run =
+      ap (λ (ts : TransitionSet). (length ts.running == 0) && list_all (has_ended event.time.0) e.effects.animations && have_same_values (after_of x) (now_of x)) none_left
+      ∙ ap (λ list. list_all (has_ended event.time.0) list && have_same_values (after_of x) (now_of x)) none_run ∙ ap (λ s. have_same_values s (now_of x)) one_style
+      ∙ same_itself (now_of x) all_properties
 
   pub stays : e.styled ≡ true → StaysSame e (entry_after x [])
   unfolding entry_after

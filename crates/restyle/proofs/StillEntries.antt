@@ -1,8 +1,9 @@
 -- What an event and a tick leave of an element of which nothing runs.
-use Rattle.std.proofs.Common.{◌≡◌, ℕ, zero, suc, refl, ap, sym, ◌∙◌, Bool, List, [], ◌∷◌, ◌++◌, map, length, Option, Some, None}
-use Rattle.std.specs.Prelude.{ℤ, All, IsSome, option_map, if◌then◌else◌}
-use Rattle.std.specs.List.{cons_option}
+use Rattle.std.proofs.Common.{◌≡◌, ℕ, zero, suc, refl, ap, sym, ◌∙◌, Bool, true, ◌&&◌, List, [], ◌∷◌, ◌++◌, map, length, Option, Some, None}
+use Rattle.std.specs.Prelude.{ℤ, ◌==◌, All, IsSome, option_map, if◌then◌else◌}
+use Rattle.std.specs.List.{cons_option, list_all}
 use Rattle.std.specs.Option.{option_to_list}
+use Rattle.std.proofs.lemmas.Bool.{and_parts}
 use Rattle.std.proofs.lemmas.List.{map-append}
 use Rattle.std.proofs.lemmas.List.Elements.{All-cons, All-head, All-nil, All-tail}
 use Rattle.animation_names.specs.NameLists.{animated_at, has_keyframes, names_update}
@@ -12,8 +13,10 @@ use Rattle.animation_names.specs.Updates.{AreAnimationsOf, IsAnimationOf}
 use Rattle.change_styles.specs.ThreeStyles.{current_style, no_animations}
 use Rattle.computed_style.specs.Winners.{Declarations}
 use Rattle.computed_style.specs.declared.inherited.Down.{Down}
+use Rattle.element_step.proofs.Working.{empty_of}
 use Rattle.element_step.specs.Rendering.{is_rendered}
-use Rattle.element_step.specs.Updates.{entry_after, now_of, now_parent, transitions_of}
+use Rattle.element_step.specs.Settling.{has_ended, have_same_values}
+use Rattle.element_step.specs.Updates.{after_of, entry_after, now_of, now_parent, settled_after, transitions_of}
 use Rattle.element_step.specs.Works.{DocumentEvent, animation_lists_after, animations_before, animations_updated, element_declarations, entry_at, event_at, paired_at, update_at}
 use Rattle.keyframes.specs.SampleLists.{value_of_samples}
 use Rattle.sheet_types.specs.Sheets.{SheetRules}
@@ -87,14 +90,14 @@ module _ (laws : StillLaws) (w : DocumentEvent) (n : ℕ) (opening : EntryParts)
   unfolding animations_updated
   left_lists = laws.after (names_update (animations_before shown opening) (animation_lists_after shown d) w.sheets w.time w.generation (event_at w n).position)
 
-  -- the current style of an update without transitions, whose animations are paused
-  left_style : transitions_of (update_at w n opening parent) ≡ no_transitions → ArePaused (paired_at w n opening parent).animations
+  -- the current style of an update of which no transition runs, and whose animations are paused
+  left_style : (transitions_of (update_at w n opening parent)).running ≡ [] → ArePaused (paired_at w n opening parent).animations
       → now_of (update_at w n opening parent)
       ≡ still_style shown d (value_of_samples (samples_of (paired_at w n opening parent).animations w.sheets t)) (now_parent parent)
   unfolding now_of update_at
   left_style none paused =
-      ap (λ (ts : TransitionSet).
-      if shown then current_style d (value_of_samples (samples_of (paired_at w n opening parent).animations w.sheets w.time.0)) ts.running w.time.0 (now_parent parent)
+      ap (λ running.
+      if shown then current_style d (value_of_samples (samples_of (paired_at w n opening parent).animations w.sheets w.time.0)) running w.time.0 (now_parent parent)
       else current_style d no_animations [] w.time.0 (now_parent parent)) none
       ∙ ap (λ samples. still_style shown d (value_of_samples samples) (now_parent parent)) (laws.paused (paired_at w n opening parent).animations w.sheets t w.time.0 paused)
 
@@ -106,7 +109,7 @@ module _ (laws : StillLaws) (w : DocumentEvent) (n : ℕ) (opening : EntryParts)
     declared = refl;
     rendered = refl;
     now = refl;
-    style = left_style still.transitions still.animations;
+    style = left_style (ap (λ (ts : TransitionSet). ts.running) still.transitions) still.animations;
     animations = left_lists;
   }
 
@@ -139,3 +142,43 @@ left_ticked w n opening above t now e left = record {
       (sym (samples_ticked w.sheets t now e.effects.animations));
   animations = ticked_lists (animation_lists_after e.rendered e.declared) w.sheets now e.effects.animations left.animations;
 }
+
+-- ---- of an element that is settled
+
+paused_before : (now : ℤ) (animations : List AnimationState) → ArePaused (map (ticked_animation now) animations) → ArePaused animations
+paused_before now [] paused = All-nil (λ (a : AnimationState). IsSome a.hold)
+paused_before now (a ∷ animations) paused =
+    All-cons (λ (x : AnimationState). IsSome x.hold) a animations
+    (All-head (λ (x : AnimationState). IsSome x.hold) (ticked_animation now a) (map (ticked_animation now) animations) paused)
+    (paused_before now animations (All-tail (λ (x : AnimationState). IsSome x.hold) (ticked_animation now a) (map (ticked_animation now) animations) paused))
+
+module _ (laws : StillLaws) (w : DocumentEvent) (n : ℕ) (opening : EntryParts) (above : Option StylesAbove) (t now : ℤ) where
+  abbrev handed : Option Down
+  handed = option_map inherited_above above
+
+  abbrev closing : EntryParts
+  closing = entry_at w n opening handed
+
+  none_runs : closing.settled ≡ true → (transitions_of (update_at w n opening handed)).running ≡ []
+  unfolding entry_after settled_after
+  none_runs settled =
+      let x = update_at w n opening handed in
+      let parts = and_parts ((length (transitions_of x).running == 0) && list_all (has_ended x.event.time.0) x.animations) (have_same_values (after_of x) (now_of x)) settled in
+      empty_of (transitions_of x).running (and_parts (length (transitions_of x).running == 0) (list_all (has_ended x.event.time.0) x.animations) parts.0).0
+
+  -- what a tick leaves of it, where nothing of that runs
+  pub left_settled : closing.settled ≡ true → IsStill (ticked_parts now closing) → IsLeftStill w n opening above t (ticked_parts now closing)
+  unfolding update_at entry_after
+  left_settled settled still =
+      let paused = paused_before now closing.effects.animations still.animations in
+      record {
+        still = still;
+        styled = refl;
+        declared = refl;
+        rendered = refl;
+        now = refl;
+        style =
+            left_style laws w n opening above t (none_runs settled) paused
+            ∙ ap (λ samples. still_style closing.rendered closing.declared (value_of_samples samples) (now_parent handed)) (sym (samples_ticked w.sheets t now closing.effects.animations));
+        animations = ticked_lists (animation_lists_after closing.rendered closing.declared) w.sheets now closing.effects.animations (left_lists laws w n opening above t);
+      }

@@ -20,6 +20,10 @@ plainly o = option_map plain o
 
 -- ---- an update asks no more of its parent
 
+pub now_plainly : (parent : Option Down) → now_parent parent ≡ now_parent (plainly parent)
+now_plainly None = refl
+now_plainly (Some d) = refl
+
 pub entry_plainly : (w : DocumentEvent) (n : ℕ) (entry : EntryParts) (parent : Option Down) → entry_at w n entry parent ≡ entry_at w n entry (plainly parent)
 unfolding update_at animations_updated entry_after transitions_of cancelled_of now_of after_of settled_after
 entry_plainly w n entry None = refl
@@ -32,7 +36,7 @@ down_plainly w n entry (Some d) = refl
 
 -- ---- five values stand for styles
 
-handed : (above : Option Ancestors) (s : ComputedStyle) → handed_down (option_map inherited_from above) s ≡ inherited_from (with_child above s)
+pub handed : (above : Option Ancestors) (s : ComputedStyle) → handed_down (option_map inherited_from above) s ≡ inherited_from (with_child above s)
 handed None s = refl
 handed (Some a) s = refl
 
@@ -48,7 +52,7 @@ pub now_inherited : (above : Option StylesAbove) → now_parent (option_map inhe
 now_inherited None = refl
 now_inherited (Some a) = refl
 
-made : Option InheritedValues → InheritedValues → InheritedValues → Bool → Down
+unfoldable pub made : Option InheritedValues → InheritedValues → InheritedValues → Bool → Down
 made before after now rendered = record { before = before; after = after; now = now; rendered = rendered; changed = false }
 
 module _ (above : Option StylesAbove) (x : ElementUpdate) (under : x.parent ≡ option_map inherited_above above) where
@@ -75,28 +79,6 @@ module _ (above : Option StylesAbove) (x : ElementUpdate) (under : x.parent ≡ 
       ∙ ap (λ n. made (option_map inherited_from (if x.entry.rendered then Some (with_child (before_above above) (before_of x)) else None))
       (inherited_from (with_child (if rendered_after x then after_above above else now_above above) (after_of x))) n (rendered_after x)) now_handed
 
--- ---- along ancestors
-
--- what the first of the elements hands down, where the others are its ancestors from its parent up
-unfoldable pub downs_along : DocumentEvent → List (ℕ × EntryParts) → List Element → Option Down
-downs_along w entries [] = None
-downs_along w entries (e ∷ above) = Some (handed_by w e.number (entry_for entries e.number) (downs_along w entries above))
-
-parent_is : (w : DocumentEvent) (n : ℕ) (entry : EntryParts) (parent : Option Down) → (update_at w n entry parent).parent ≡ parent
+pub parent_is : (w : DocumentEvent) (n : ℕ) (entry : EntryParts) (parent : Option Down) → (update_at w n entry parent).parent ≡ parent
 unfolding update_at
 parent_is w n entry parent = refl
-
-pub stand_for : (w : DocumentEvent) (entries : List (ℕ × EntryParts)) (chain : List Element) → plainly (downs_along w entries chain) ≡ option_map inherited_above (styles_along w entries chain)
-unfolding downs_along
-stand_for w entries [] = refl
-stand_for w entries (e ∷ above) =
-    let entry = entry_for entries e.number in
-    let styles = styles_along w entries above in
-    ap (λ d. Some (plain d)) (down_plainly w e.number entry (downs_along w entries above))
-    ∙ ap (λ p. Some (plain (handed_by w e.number entry p))) (stand_for w entries above)
-    ∙ ap Some (below_is styles (update_under w entries e.number styles) (parent_is w e.number entry (option_map inherited_above styles)))
-
--- the entry over what is handed down is that over whole styles
-pub entry_along : (w : DocumentEvent) (entries : List (ℕ × EntryParts)) (n : ℕ) (entry : EntryParts) (chain : List Element)
-    → entry_at w n entry (downs_along w entries chain) ≡ entry_at w n entry (option_map inherited_above (styles_along w entries chain))
-entry_along w entries n entry chain = entry_plainly w n entry (downs_along w entries chain) ∙ ap (entry_at w n entry) (stand_for w entries chain)

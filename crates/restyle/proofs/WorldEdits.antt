@@ -2,7 +2,7 @@
 use Rattle.std.proofs.Common.{◌≡◌, ℕ, refl, ap, sym, ◌∙◌, subst, inl, inr, arith, eqb, get_or, Bool, true, false, not, ◌||◌, Option, Some, None, List, [], ◌∷◌, ◌++◌, append-nil, append_assoc, filter, map}
 use Rattle.std.specs.Prelude.{All, Ok, is_none, if◌then◌else◌, nat_eq, option_map}
 use Rattle.std.specs.List.{flat_map, list_all, list_any}
-use Rattle.std.proofs.lemmas.Bool.{and_parts, cases_Bool, cases_lt, or_left, or_right}
+use Rattle.std.proofs.lemmas.Bool.{and_parts, cases_Bool, cases_lt, false≢true, or_left, or_right}
 use Rattle.std.proofs.lemmas.List.{map-append}
 use Rattle.std.proofs.lemmas.List.Folds.{list_all-append, list_any-append}
 use Rattle.std.proofs.lemmas.List.Elements.{All-append}
@@ -50,7 +50,7 @@ with_tree s d known =
     ap (λ es. world_parts d s.last_sheets s.sheets es (departed_in s.entries s.removed.items) s.time s.frames) (sym again)
 
 pub kept_with_tree : (law : EditLaw) (s : WorldState) (d : Document) (c : Command) → IsKeptState s → IsTree d → list_all (λ e. is_used e.0 d) s.entries ≡ true
-    → refusal_of (world_of s) c ≡ None → world_of (record s { tree = d }) ≡ edited (world_of s) c → IsKeptState (record s { tree = d })
+    → refusal_of (world_of s) c ≡ None → world_of (record s { tree = d; quiet = false }) ≡ edited (world_of s) c → IsKeptState (record s { tree = d; quiet = false })
 kept_with_tree law s d c kept tree used accepted is = record {
   world = record {
     tree = tree;
@@ -60,6 +60,7 @@ kept_with_tree law s d c kept tree used accepted is = record {
   time = kept.time;
   removed = kept.removed;
   used = used;
+  quiet = λ quiet. absurd (false≢true quiet);
 }
 
 -- ---- one element more
@@ -167,9 +168,9 @@ IsEdited before after c = ((refusal_of (world_of before) c ≡ None) × (world_o
 
 edit_of_tree : (law : EditLaw) (s : WorldState) (d : Document) (c : Command) → IsKeptState s → IsTree d → refusal_of (world_of s) c ≡ None
     → list_all (is_known (numbers_of s.tree.elements) s.entries) (numbers_of d.elements) ≡ true → list_all (λ e. is_used e.0 d) s.entries ≡ true
-    → with_document (world_of s) d ≡ edited (world_of s) c → IsEdited s (record s { tree = d }) c
+    → with_document (world_of s) d ≡ edited (world_of s) c → IsEdited s (record s { tree = d; quiet = false }) c
 edit_of_tree law s d c kept tree accepted known used is =
-    let whole : world_of (record s { tree = d }) ≡ edited (world_of s) c = with_tree s d known ∙ is in
+    let whole : world_of (record s { tree = d; quiet = false }) ≡ edited (world_of s) c = with_tree s d known ∙ is in
     ((accepted, whole), kept_with_tree law s d c kept tree used accepted whole)
 
 accepted_by_tree : (fault : Option TreeFault) → Answers {T = Unit {0}} fault (Ok tt) → option_map refusal_of_tree fault ≡ None
@@ -179,7 +180,7 @@ pub accepted_as : {fault other : Option TreeFault} → fault ≡ other → Answe
 accepted_as {fault = fault} {other = other} same answers = ap (option_map refusal_of_tree) (same ∙ no_fault other tt answers)
 
 pub added : (law : EditLaw) (s : WorldState) (d : Document) (n : ℕ) (parent : Option ℕ) (tag : List ℕ) → IsKeptState s → IsTree d
-    → Answers {T = Unit {0}} (fault_of_add s.tree n parent) (Ok tt) → IsAdded s.tree d (new_element n parent tag) → IsEdited s (record s { tree = d }) (Add n parent tag)
+    → Answers {T = Unit {0}} (fault_of_add s.tree n parent) (Ok tt) → IsAdded s.tree d (new_element n parent tag) → IsEdited s (record s { tree = d; quiet = false }) (Add n parent tag)
 added law s d n parent tag kept tree answers is =
     let none = no_fault (fault_of_add s.tree n parent) tt answers in
     edit_of_tree law s d (Add n parent tag) kept tree (accepted_by_tree (fault_of_add s.tree n parent) answers)
@@ -187,7 +188,7 @@ added law s d n parent tag kept tree answers is =
     (still_used s d n kept is.used) (ap (with_document (world_of s)) (added_is s.tree d n parent tag is))
 
 pub inserted : (law : EditLaw) (s : WorldState) (d : Document) (n sibling : ℕ) (tag : List ℕ) → IsKeptState s → IsTree d
-    → Answers {T = Unit {0}} (fault_of_insert s.tree n sibling) (Ok tt) → IsInserted s.tree d n sibling tag → IsEdited s (record s { tree = d }) (Insert n sibling tag)
+    → Answers {T = Unit {0}} (fault_of_insert s.tree n sibling) (Ok tt) → IsInserted s.tree d n sibling tag → IsEdited s (record s { tree = d; quiet = false }) (Insert n sibling tag)
 inserted law s d n sibling tag kept tree answers is =
     let none = no_fault (fault_of_insert s.tree n sibling) tt answers in
     edit_of_tree law s d (Insert n sibling tag) kept tree (accepted_by_tree (fault_of_insert s.tree n sibling) answers)
@@ -198,7 +199,7 @@ inserted law s d n sibling tag kept tree answers is =
 -- element n is changed, and keeps its number
 pub changed : (law : EditLaw) (s : WorldState) (d : Document) (c : Command) (n : ℕ) (change : Element → Element) → IsKeptState s → IsTree d
     → ((e : Element) → (change e).number ≡ e.number) → refusal_of (world_of s) c ≡ None → d ≡ with_change s.tree n change
-    → with_document (world_of s) (with_change s.tree n change) ≡ edited (world_of s) c → IsEdited s (record s { tree = d }) c
+    → with_document (world_of s) (with_change s.tree n change) ≡ edited (world_of s) c → IsEdited s (record s { tree = d; quiet = false }) c
 changed law s d c n change kept tree keeps accepted is same =
     edit_of_tree law s d c kept tree accepted
     (same_numbers_known s d (ap (λ (x : Document). numbers_of x.elements) is ∙ changed_numbers s.tree.elements n change keeps))
@@ -228,9 +229,9 @@ entries_without s n =
 
 pub removed : (law : EditLaw) (s s' : WorldState) (n : ℕ) (r : Removed) → IsKeptState s → IsTree s'.tree
     → refusal_of (world_of s) (Remove n) ≡ None → s'.tree ≡ without s.tree n → s'.last_sheets ≡ s.last_sheets → s'.sheets ≡ s.sheets → s'.entries ≡ s.entries
-    → s'.time ≡ s.time → s'.frames ≡ s.frames → s'.removed.items ≡ s.removed.items ++ r ∷ []
+    → s'.time ≡ s.time → s'.frames ≡ s.frames → s'.removed.items ≡ s.removed.items ++ r ∷ [] → s'.quiet ≡ false
     → r.time ≡ s.time → r.numbers.items ≡ numbers_of (subtree_of s.tree.elements n) → IsEdited s s' (Remove n)
-removed law s s' n r kept tree accepted tree_is last_is sheets_is entries_is time_is frames_is items time numbers = (
+removed law s s' n r kept tree accepted tree_is last_is sheets_is entries_is time_is frames_is items edited_is time numbers = (
   (accepted, whole),
   record {
     world = record {
@@ -241,6 +242,7 @@ removed law s s' n r kept tree accepted tree_is last_is sheets_is entries_is tim
     time = subst (λ (t : Micros). IsMoment t.0) (sym time_is) kept.time;
     removed = subst (λ (rs : List Removed). All (λ x. IsMoment x.time.0) rs) (sym items) (time_of_all s.time s.removed.items r kept.removed (subst (λ (t : Micros). IsMoment t.0) (sym time) kept.time));
     used = ap (λ (es : List (ℕ × EntryParts)). list_all (λ e. is_used e.0 s'.tree) es) entries_is ∙ ap (λ (x : Document). list_all (λ e. is_used e.0 x) s.entries) tree_is ∙ kept.used;
+    quiet = λ quiet. absurd (false≢true (sym edited_is ∙ quiet));
   },
 )
   where

@@ -16,6 +16,7 @@ use Rattle.style_data.specs.Transitions.{IsMoment}
 use Rattle.ticker.specs.Distinct.{AreDistinct}
 use Rattle.ticker.specs.Ticks.{ticked_entry}
 use Rattle.restyle.specs.Distinct.{AreInTreeOrder, IsDistinct, IsWorld}
+use Rattle.restyle.specs.Quiet.{IsLeftByFrame, IsQuietFrame}
 use Rattle.restyle.specs.States.{IsKeptState, departed_in, world_of}
 use Rattle.restyle.specs.StyleChanges.{FrameParts, entry_after_event, frame_after, frame_event, frame_parts}
 use Rattle.restyle.specs.Worlds.{WorldParts, all_gone_at, entries_of, frame_of, ticked_world, with_frame, world_after_frame, world_parts}
@@ -153,6 +154,32 @@ time_kept : (w : WorldParts) → (world_after_frame w).time ≡ w.time
 unfolding world_after_frame
 time_kept w = refl
 
+-- a frame leaves its document, its sheets and its entries
+left_by_frame : (w : WorldParts) → IsWorld w → IsLeftByFrame (world_after_frame w)
+unfolding world_after_frame frame_after
+left_by_frame w world = record {
+  last = frame_of (ticked_world w);
+  tree = world.tree;
+  order = numbers_ticked w.time.0 w.entries ∙ world.order;
+  document = refl;
+  old = refl;
+  sheets = refl;
+  entries = refl;
+}
+
+-- after the tick the event of the next frame is quiet
+pub ticked_quiet : (w : WorldParts) → IsLeftByFrame w → IsQuietFrame (frame_of (ticked_world w))
+ticked_quiet w left = record {
+  last = left.last;
+  tick = w.time.0;
+  tree = left.tree;
+  order = left.order;
+  document = left.document;
+  old = left.old;
+  sheets = left.sheets;
+  entries = ap (map (ticked_entry w.time.0)) left.entries;
+}
+
 pub state_kept : (law : (w : WorldParts) → IsWorld w → IsDistinct (world_after_frame w)) (s r : WorldState) → IsKeptState s → world_of r ≡ world_after_frame (world_of s)
     → AreInTreeOrder r.tree r.entries → r.removed.items ≡ [] → IsKeptState r
 state_kept law s r kept is order none =
@@ -168,6 +195,7 @@ state_kept law s r kept is order none =
       time = subst (λ (w : WorldParts). IsMoment w.time.0) (sym is) (subst (λ t. IsMoment t) (sym (ap (λ m. m.0) (time_kept (world_of s)))) kept.time);
       removed = subst (λ (rs : List Removed). All (λ x. IsMoment x.time.0) rs) (sym none) (λ k d within. absurd (omega (arith, within)));
       used = all_used r.tree r.tree.elements r.entries order used;
+      quiet = λ _. subst IsLeftByFrame (sym is) (left_by_frame (world_of s) kept.world);
     }
 
 -- ---- what readers of entries tell

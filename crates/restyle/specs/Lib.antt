@@ -2,6 +2,7 @@ pub mod Distinct
 pub mod Documents
 pub mod Edits
 pub mod Entries
+pub mod Quiet
 pub mod Rest
 pub mod States
 pub mod StyleChanges

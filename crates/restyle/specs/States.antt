@@ -13,6 +13,7 @@ use Rattle.style_data.specs.Transitions.{IsMoment}
 use Rattle.style_data.specs.declared.gone.Gone.{Gone}
 use Rattle.restyle.specs.Distinct.{IsWorld}
 use Rattle.restyle.specs.Edits.{refusal_of_tree}
+use Rattle.restyle.specs.Quiet.{IsLeftByFrame}
 use Rattle.restyle.specs.Worlds.{WorldParts, all_departed_of, entries_of, world_parts}
 use Rattle.restyle.specs.declared.edit_fault.EditFault.{EditFault}
 use Rattle.restyle.specs.declared.edit_fault.EditFault.TheVariants.{Refused, NoMemory}
@@ -27,18 +28,20 @@ departed_in entries removed = flat_map (λ r. all_departed_of entries r.time r.n
 abbrev pub world_of : WorldState → WorldParts
 world_of s = world_parts s.tree s.last_sheets s.sheets (entries_of s.tree s.entries) (departed_in s.entries s.removed.items) s.time s.frames
 
--- no element that is new has an entry
+-- no element that is new has an entry, and what says that it is quiet is what a frame left, but for the time
 pub record IsKeptState (s : WorldState) : Type 0 where
   pub world : IsWorld (world_of s)
   pub time : IsMoment s.time.0
   pub removed : All (λ r. IsMoment r.time.0) s.removed.items
   pub used : IsTrue (list_all (λ e. is_used e.0 s.tree) s.entries)
+  pub quiet : IsTrue s.quiet → IsLeftByFrame (world_of s)
 
 -- after the tick of a frame nothing waits of removed elements, and the document, its sheets and the time are as they were
 pub record HasSameRest (before after : WorldState) : Type 0 where
   pub tree : after.tree ≡ before.tree
   pub time : after.time ≡ before.time
   pub frames : after.frames ≡ before.frames
+  pub quiet : after.quiet ≡ before.quiet
   pub removed : after.removed.items ≡ []
 
 -- what an edit answers where the tree has this fault

@@ -73,6 +73,7 @@ fn add(state: &mut WorldState, node: u32, parent: Option<u32>, tag: &str) -> Res
     match state.tree.add(node, parent, tag) {
         Ok(()) => {
             let _ = state.tree.len();
+            state.quiet = false;
             Ok(())
         }
         Err(fault) => Err(tree_fault(fault)),
@@ -88,6 +89,7 @@ fn insert(state: &mut WorldState, node: u32, sibling: u32, tag: &str) -> Result<
     match state.tree.insert(node, sibling, tag) {
         Ok(()) => {
             let _ = state.tree.len();
+            state.quiet = false;
             Ok(())
         }
         Err(fault) => Err(tree_fault(fault)),
@@ -107,6 +109,7 @@ fn remove(state: &mut WorldState, node: u32) -> Result<(), EditFault>
     match state.tree.remove(node) {
         Ok(numbers) => {
             let _ = state.tree.len();
+            state.quiet = false;
             let time = state.time;
             state.removed.push(Removed { time, numbers }).unwrap();
             Ok(())
@@ -124,6 +127,7 @@ fn set_id(state: &mut WorldState, node: u32, name: Option<&ScriptName>) -> Resul
     match state.tree.set_id(node, id_text(name)) {
         Ok(()) => {
             let _ = state.tree.len();
+            state.quiet = false;
             Ok(())
         }
         Err(fault) => Err(tree_fault(fault)),
@@ -157,6 +161,7 @@ fn set_classes(
     match state.tree.set_class(node, words.as_slice()) {
         Ok(()) => {
             let _ = state.tree.len();
+            state.quiet = false;
             Ok(())
         }
         Err(fault) => Err(tree_fault(fault)),
@@ -187,6 +192,7 @@ fn set_style(state: &mut WorldState, alloc: Global, node: u32, text: &str) -> Re
     match state.tree.set_style(node, text) {
         Ok(()) => {
             let _ = state.tree.len();
+            state.quiet = false;
             Ok(())
         }
         Err(fault) => Err(tree_fault(fault)),
@@ -225,6 +231,7 @@ fn set_sheet(
     match sheet_from(alloc, text) {
         Ok(sheet) => {
             state.sheets.put(number, sheet);
+            state.quiet = false;
             Ok(())
         }
         Err(fault) => Err(css_fault(fault)),

@@ -1,11 +1,11 @@
 //! How the pass of a style change event is made.
 
 ghost use Rattle.std.specs.Prelude.{IfOk, IsTrue};
-ghost use Rattle.element_step.specs.Works.{element_meaning};
+ghost use Rattle.element_step.specs.Quiet.{quiet_meaning};
 ghost use Rattle.pass_core.specs.Passes.{are_distinct, have_entries, IsPassOutcome};
 ghost use Rattle.pass_core.specs.Plans.{is_proper};
 
-use element_step::ElementWork;
+use element_step::QuietWork;
 use pass_core::{Plan, pass_alone};
 use std::alloc::{AllocError, Global};
 use std::thread::Threads;
@@ -21,7 +21,7 @@ pub(crate) trait Pass {
     fn closing_entries(
         &self,
         alloc: Global,
-        work: &ElementWork,
+        work: &QuietWork,
         plan: &Plan,
         entries: Vec<(u32, Entry)>,
     ) -> Result<Vec<(u32, Entry)>, AllocError>
@@ -29,7 +29,7 @@ pub(crate) trait Pass {
         requires proper { IsTrue (is_proper plan.now.places.items) }
         requires distinct { IsTrue (are_distinct entries.items) }
         requires entries { IsTrue (have_entries plan.now.places.items entries.items) }
-        ensures { IfOk result (λ closing. IsPassOutcome (element_meaning work.now) plan.now.places.items entries.items closing.items) };
+        ensures { IfOk result (λ closing. IsPassOutcome (quiet_meaning work.now.quiet work.now.work) plan.now.places.items entries.items closing.items) };
 }
 
 /// On this thread, in tree order.
@@ -42,7 +42,7 @@ impl Pass for InTreeOrder {
     fn closing_entries(
         &self,
         alloc: Global,
-        work: &ElementWork,
+        work: &QuietWork,
         plan: &Plan,
         entries: Vec<(u32, Entry)>,
     ) -> Result<Vec<(u32, Entry)>, AllocError> {
@@ -66,7 +66,7 @@ impl<R: Threads + Sync> Pass for ByLevels<'_, R> {
     fn closing_entries(
         &self,
         alloc: Global,
-        work: &ElementWork,
+        work: &QuietWork,
         plan: &Plan,
         entries: Vec<(u32, Entry)>,
     ) -> Result<Vec<(u32, Entry)>, AllocError> {

@@ -1,15 +1,16 @@
 //! The style change event of a frame.
 
-ghost use Rattle.std.specs.Prelude.{◌≡◌, ◌<◌, ◌≤◌, IfOk, IfSome, length, map};
+ghost use Rattle.std.specs.Prelude.{◌≡◌, ◌<◌, ◌≤◌, IfOk, IfSome, IsTrue, length, map};
 ghost use Rattle.doc_tree.specs.Element.{numbers_of};
 ghost use Rattle.value_types.specs.Ranges.{IsSize};
+ghost use Rattle.restyle.specs.Quiet.{IsQuietEvent, IsQuietFrame};
 ghost use Rattle.restyle.specs.StyleChanges.{entry_after_event, frame_after, root_size_of};
 
 use crate::frame::{Frame, FrameContent};
 use crate::passes::{ByLevels, InTreeOrder, Pass};
 use crate::plan::plan_of;
 use doc_tree::laws;
-use element_step::ElementWork;
+use element_step::{ElementWork, QuietWork};
 use fix_num::Fix;
 use std::alloc::{AllocError, Global};
 use std::thread::Threads;
@@ -29,7 +30,7 @@ pub fn restyle_alone(alloc: Global, frame: Frame) -> Result<Restyled, AllocError
     ensures frame { IfOk result (λ r. r.frame ≡ frame_after frame) }
     ensures updated { IfOk result (λ r. r.updated ≡ length frame.document.elements) }
 {
-    restyle_by(&InTreeOrder, alloc, frame)
+    restyle_by(&InTreeOrder, alloc, frame, false)
 }
 
 /// The style change event of a frame, by levels: the elements of a level are updated beside each other, in at most so many pieces as there are
@@ -45,16 +46,18 @@ pub fn restyle<R: Threads + Sync>(
     ensures frame { IfOk result (λ r. r.frame ≡ frame_after frame) }
     ensures updated { IfOk result (λ r. r.updated ≡ length frame.document.elements) }
 {
-    restyle_by(&ByLevels { rt, workers }, alloc, frame)
+    restyle_by(&ByLevels { rt, workers }, alloc, frame, false)
 }
 
-/// The style change event of a frame, by this pass.
+/// The style change event of a frame, by this pass. Where the frame is known to be quiet, elements at rest under ancestors at rest are passed over.
 pub(crate) fn restyle_by<P: Pass>(
     pass: &P,
     alloc: Global,
     frame: Frame,
+    quiet: bool,
 ) -> Result<Restyled, AllocError>
-    requires { P.can_pass pass.now }
+    requires ready { P.can_pass pass.now }
+    requires quiet { IsTrue quiet → IsQuietFrame frame }
     ensures frame { IfOk result (λ r. r.frame ≡ frame_after frame) }
     ensures updated { IfOk result (λ r. r.updated ≡ length frame.document.elements) }
 {
@@ -70,7 +73,9 @@ pub(crate) fn restyle_by<P: Pass>(
     let updated = tree.len() as u32;
     let root_size = root_size_of(entries.as_slice());
     let work = ElementWork::new(time, generation, tree, old, sheets, root_size);
+    let work = QuietWork { work, quiet };
     let entries = update_all(pass, alloc, &work, entries)?;
+    let QuietWork { work, .. } = work;
     let (tree, sheets) = work.into_parts();
     let old = sheets.copy()?;
     let frame = Frame::new(FrameContent {
@@ -88,19 +93,23 @@ pub(crate) fn restyle_by<P: Pass>(
 fn update_all<P: Pass>(
     pass: &P,
     alloc: Global,
-    work: &ElementWork,
+    work: &QuietWork,
     entries: Vec<(u32, Entry)>,
 ) -> Result<Vec<(u32, Entry)>, AllocError>
     requires ready { P.can_pass pass.now }
-    requires numbers { map (λ x. x.0) entries.items ≡ numbers_of work.now.document.elements }
-    ensures value { IfOk result (λ closing. closing.items ≡ map (λ x. (x.0, entry_after_event work.now entries.items x.0)) entries.items) }
-    ensures numbers { IfOk result (λ closing. map (λ x. x.0) closing.items ≡ numbers_of work.now.document.elements) }
+    requires numbers { map (λ x. x.0) entries.items ≡ numbers_of work.now.work.document.elements }
+    requires quiet { IsTrue work.now.quiet → IsQuietEvent work.now.work entries.items }
+    ensures value { IfOk result (λ closing. closing.items ≡ map (λ x. (x.0, entry_after_event work.now.work entries.items x.0)) entries.items) }
+    ensures numbers { IfOk result (λ closing. map (λ x. x.0) closing.items ≡ numbers_of work.now.work.document.elements) }
 {
+    animation_names::laws::paused_samples_stay();
+    animation_names::laws::unchanged_lists_change_nothing();
     laws::ancestors_go_by_parents();
     laws::numbers_differ();
     laws::parents_stand_before();
     laws::subtrees_stand_together();
-    let plan = plan_of(alloc, work.tree())?;
+    transition_update::nothing_changes();
+    let plan = plan_of(alloc, work.work.tree())?;
     pass.closing_entries(alloc, work, &plan, entries)
 }
 

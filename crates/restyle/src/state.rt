@@ -39,6 +39,8 @@ pub(crate) struct WorldState {
     /// The current time in microseconds.
     pub(crate) time: Micros,
     pub(crate) frames: u32,
+    /// Whether nothing has changed since the last frame but the time.
+    pub(crate) quiet: bool,
 }
 
 impl WorldState {
@@ -57,6 +59,7 @@ impl WorldState {
             removed: Vec::new(alloc),
             time: Micros(0),
             frames: 0,
+            quiet: false,
         })
     }
 

@@ -1,6 +1,6 @@
 //! The next frame of a world.
 
-ghost use Rattle.std.specs.Prelude.{◌≡◌, ◌+◌, ◌-◌, ◌^◌, ◌<◌, [], All, IfOk, OnOk, length, map};
+ghost use Rattle.std.specs.Prelude.{◌≡◌, ◌+◌, ◌-◌, ◌^◌, ◌<◌, [], All, IfOk, IsTrue, OnOk, length, map};
 ghost use Rattle.doc_tree.specs.Element.{numbers_of};
 ghost use Rattle.event_order.specs.Order.{IsInOrderOf};
 ghost use Rattle.style_data.specs.Entries.{AreAscending};
@@ -10,6 +10,7 @@ ghost use Rattle.ticker.specs.Distinct.{AreDistinct};
 ghost use Rattle.ticker.specs.Ticks.{tick_events, ticked_entry};
 ghost use Rattle.doc_tree.specs.Shape.{IsTree};
 ghost use Rattle.restyle.specs.Distinct.{AreInTreeOrder};
+ghost use Rattle.restyle.specs.Quiet.{IsQuietFrame};
 ghost use Rattle.restyle.specs.States.{HasSameRest, IsKeptState, world_of};
 ghost use Rattle.restyle.specs.StyleChanges.{frame_after, frame_parts};
 ghost use Rattle.restyle.specs.Worlds.{entries_of, events_of_frame, frame_of, ticked_world, with_frame, world_after_frame};
@@ -120,6 +121,7 @@ fn restyled<P: Pass>(
     requires time { IsMoment state.time.0 }
     requires removed { state.removed.items ≡ [] }
     requires few { state.frames < 2 ^ 32 - 1 }
+    requires quiet { IsTrue state.quiet → IsQuietFrame (frame_of (world_of state)) }
     ensures world { IfOk result (λ r. world_of r.0 ≡ with_frame (world_of state) (frame_after (frame_of (world_of state)))) }
     ensures order { IfOk result (λ r. AreInTreeOrder r.0.tree r.0.entries) }
     ensures removed { IfOk result (λ r. r.0.removed.items ≡ []) }
@@ -133,6 +135,7 @@ fn restyled<P: Pass>(
         removed,
         time,
         frames,
+        quiet,
     } = state;
     let (numbers, entries) = entries.into_parts();
     let frame = Frame::new(FrameContent {
@@ -143,7 +146,7 @@ fn restyled<P: Pass>(
         time,
         generation: frames + 1,
     });
-    let Restyled { frame, updated } = restyle_by(pass, alloc, frame)?;
+    let Restyled { frame, updated } = restyle_by(pass, alloc, frame, quiet)?;
     Ok((state_of(frame, numbers, removed), updated))
 }
 
@@ -169,5 +172,6 @@ fn state_of(frame: Frame, numbers: IndexSet<u32>, removed: Vec<Removed>) -> Worl
         removed,
         time,
         frames: generation,
+        quiet: true,
     }
 }

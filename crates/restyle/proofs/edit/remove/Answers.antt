@@ -1,4 +1,4 @@
-use Rattle.std.proofs.Common.{◌∙◌, ap, refl, [], ◌∷◌, ◌++◌}
+use Rattle.std.proofs.Common.{◌∙◌, ap, refl, false, [], ◌∷◌, ◌++◌}
 use Rattle.std.specs.Prelude.{if◌then◌else◌, is_ok}
 use Rattle.restyle.proofs.WorldEdits.{accepted_removal, removed}
 use Rattle.restyle.proofs.edit.remove.Goals as goal
@@ -14,11 +14,12 @@ returns-in-Ok-remove-clause-answer c =
       removed = c.push.new.self;
       time = c.args.state.now.time;
       frames = c.args.state.now.frames;
+      quiet = false;
     })
     c.args.node (record { time = c.args.state.now.time; numbers = c.in-Ok-remove.numbers }) c.requires.kept c.len.ensures.tree
     (accepted_removal c.args.state.now.tree c.args.node c.in-Ok-remove.numbers c.in-Ok-remove.ensures.fault) c.in-Ok-remove.ensures.ok refl refl refl refl refl
     (c.push.ensures.items ∙ ap (λ r. if is_ok r then c.reserve.new.self.items ++ record { time = c.args.state.now.time; numbers = c.in-Ok-remove.numbers } ∷ [] else c.reserve.new.self.items) c.unwrap.ensures
-    ∙ ap (λ xs. xs ++ record { time = c.args.state.now.time; numbers = c.in-Ok-remove.numbers } ∷ []) c.reserve.ensures.items) refl c.in-Ok-remove.ensures.numbers).0
+    ∙ ap (λ xs. xs ++ record { time = c.args.state.now.time; numbers = c.in-Ok-remove.numbers } ∷ []) c.reserve.ensures.items) refl refl c.in-Ok-remove.ensures.numbers).0
 
 pub returns-in-Ok-remove-clause-kept : goal.returns-in-Ok-remove-clause-kept
 returns-in-Ok-remove-clause-kept c =
@@ -31,8 +32,9 @@ returns-in-Ok-remove-clause-kept c =
       removed = c.push.new.self;
       time = c.args.state.now.time;
       frames = c.args.state.now.frames;
+      quiet = false;
     })
     c.args.node (record { time = c.args.state.now.time; numbers = c.in-Ok-remove.numbers }) c.requires.kept c.len.ensures.tree
     (accepted_removal c.args.state.now.tree c.args.node c.in-Ok-remove.numbers c.in-Ok-remove.ensures.fault) c.in-Ok-remove.ensures.ok refl refl refl refl refl
     (c.push.ensures.items ∙ ap (λ r. if is_ok r then c.reserve.new.self.items ++ record { time = c.args.state.now.time; numbers = c.in-Ok-remove.numbers } ∷ [] else c.reserve.new.self.items) c.unwrap.ensures
-    ∙ ap (λ xs. xs ++ record { time = c.args.state.now.time; numbers = c.in-Ok-remove.numbers } ∷ []) c.reserve.ensures.items) refl c.in-Ok-remove.ensures.numbers).1
+    ∙ ap (λ xs. xs ++ record { time = c.args.state.now.time; numbers = c.in-Ok-remove.numbers } ∷ []) c.reserve.ensures.items) refl refl c.in-Ok-remove.ensures.numbers).1

@@ -1,11 +1,15 @@
 use Rattle.std.proofs.Common.{◌≡◌, ◌∙◌, ap, sym, subst, true}
 use Rattle.std.specs.Prelude.{IfOk, Result, Ok, Err}
+use Rattle.doc_tree.specs.Element.{Document}
 use Rattle.doc_tree.specs.Shape.{IsTree}
-use Rattle.element_step.specs.Works.{element_meaning}
+use Rattle.element_step.specs.Quiet.{quiet_meaning}
 use Rattle.pass_core.specs.Passes.{IsPassOutcome, have_entries}
 use Rattle.restyle.specs.TreePlans.{places_of}
-use Rattle.restyle.proofs.Outcomes.{entries_distinct, entries_had, whole_event}
+use Rattle.restyle.proofs.ElementsAtRest.{quiet_leaves}
+use Rattle.restyle.proofs.Outcomes.{entries_distinct, entries_had}
 use Rattle.restyle.proofs.ProperPlans.{TreeLaws}
+use Rattle.restyle.proofs.QuietPasses.{whole_quiet}
+use Rattle.restyle.proofs.QuietUpdates.{StillLaws}
 use Rattle.restyle.proofs.restyling.update_all.Goals as goal
 
 if_ok : {T E : Type 0} {P Q : T → Type 0} (r : Result T E) → ((t : T) → P t → Q t) → IfOk r P → IfOk r Q
@@ -20,7 +24,7 @@ closing_entries-requires-clause-distinct g c =
       parent = c.parents_stand_before.ensures;
       together = c.subtrees_stand_together.ensures;
     } in
-    entries_distinct c.args.work.now (subst (λ d. IsTree d) c.tree.ensures c.in_ok-plan.ensures.tree) laws c.args.entries.items c.requires.numbers
+    entries_distinct c.args.work.now.work (subst (λ d. IsTree d) c.tree.ensures c.in_ok-plan.ensures.tree) laws c.args.entries.items c.requires.numbers
 
 pub closing_entries-requires-clause-entries : goal.closing_entries-requires-clause-entries
 closing_entries-requires-clause-entries g c =
@@ -31,20 +35,28 @@ closing_entries-requires-clause-entries g c =
       together = c.subtrees_stand_together.ensures;
     } in
     subst (λ ps. have_entries ps c.args.entries.items ≡ true) (sym (c.in_ok-plan.ensures.value ∙ ap places_of c.tree.ensures))
-    (entries_had c.args.work.now (subst (λ d. IsTree d) c.tree.ensures c.in_ok-plan.ensures.tree) laws c.args.entries.items c.requires.numbers)
+    (entries_had c.args.work.now.work (subst (λ d. IsTree d) c.tree.ensures c.in_ok-plan.ensures.tree) laws c.args.entries.items c.requires.numbers)
 
 pub returns-clause-value : goal.returns-clause-value
 returns-clause-value g c =
-    let w = c.args.work.now in
+    let w = c.args.work.now.work in
     let entries = c.args.entries.items in
     let tree = subst (λ d. IsTree d) c.tree.ensures c.in_ok-plan.ensures.tree in
-    let laws : TreeLaws = record {
+    let trees : TreeLaws = record {
       ancestors = c.ancestors_go_by_parents.ensures;
       differ = c.numbers_differ.ensures;
       parent = c.parents_stand_before.ensures;
       together = c.subtrees_stand_together.ensures;
     } in
+    let laws : StillLaws = record {
+      starts = c.nothing_changes.ensures.transitions;
+      cancels = c.nothing_changes.ensures.gone;
+      same = c.unchanged_lists_change_nothing.ensures.same;
+      after = c.unchanged_lists_change_nothing.ensures.after;
+      paused = c.paused_samples_stay.ensures;
+    } in
     if_ok c.closing_entries.result (λ closing outcome.
-    whole_event w tree laws entries closing.items c.requires.numbers (entries_distinct w tree laws entries c.requires.numbers)
-    (subst (λ ps. IsPassOutcome (element_meaning w) ps entries closing.items) (c.in_ok-plan.ensures.value ∙ ap places_of c.tree.ensures) outcome))
+    whole_quiet w tree trees entries c.args.work.now.quiet (λ quiet. quiet_leaves trees laws w entries (c.requires.quiet quiet)) closing.items c.requires.numbers
+    (entries_distinct w tree trees entries c.requires.numbers)
+    (subst (λ ps. IsPassOutcome (quiet_meaning c.args.work.now.quiet w) ps entries closing.items) (c.in_ok-plan.ensures.value ∙ ap places_of c.tree.ensures) outcome))
     c.closing_entries.ensures

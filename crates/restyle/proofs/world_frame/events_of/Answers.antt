@@ -37,6 +37,7 @@ returns-clause-world c =
       removed = c.take_entries.new.state.removed;
       time = c.take_entries.new.state.time;
       frames = c.take_entries.new.state.frames;
+      quiet = c.take_entries.new.state.quiet;
     }) = record {
       tree = ap (λ (x : WorldState). x.tree) rest ∙ c.renumber.ensures;
       last_sheets = ap (λ (x : WorldState). x.last_sheets) rest;
@@ -55,6 +56,7 @@ returns-clause-world c =
       removed = c.take_entries.new.state.removed;
       time = c.take_entries.new.state.time;
       frames = c.take_entries.new.state.frames;
+      quiet = c.take_entries.new.state.quiet;
     }) c.requires.kept.world.tree ticked
 
 pub returns-clause-order : goal.returns-clause-order
@@ -70,6 +72,7 @@ returns-clause-order c =
       removed = c.take_entries.new.state.removed;
       time = c.take_entries.new.state.time;
       frames = c.take_entries.new.state.frames;
+      quiet = c.take_entries.new.state.quiet;
     }) = record {
       tree = ap (λ (x : WorldState). x.tree) rest ∙ c.renumber.ensures;
       last_sheets = ap (λ (x : WorldState). x.last_sheets) rest;
@@ -88,4 +91,5 @@ returns-clause-order c =
       removed = c.take_entries.new.state.removed;
       time = c.take_entries.new.state.time;
       frames = c.take_entries.new.state.frames;
+      quiet = c.take_entries.new.state.quiet;
     }) ticked

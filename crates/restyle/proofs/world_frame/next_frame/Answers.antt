@@ -4,7 +4,9 @@ use Rattle.doc_tree.specs.Shape.{IsTree}
 use Rattle.fix_num.specs.declared.units.Micros.{Micros}
 use Rattle.style_data.specs.Transitions.{IsMoment}
 use Rattle.restyle.specs.States.{world_of}
-use Rattle.restyle.proofs.WorldFrames.{frame_is, state_kept}
+use Rattle.restyle.specs.Quiet.{IsQuietFrame}
+use Rattle.restyle.specs.Worlds.{frame_of}
+use Rattle.restyle.proofs.WorldFrames.{frame_is, state_kept, ticked_quiet}
 use Rattle.restyle.proofs.world_frame.next_frame.Goals as goal
 
 pub restyled-requires-clause-tree : goal.restyled-requires-clause-tree
@@ -12,6 +14,11 @@ restyled-requires-clause-tree g c = subst IsTree (sym c.in_ok-events.ensures.res
 
 pub restyled-requires-clause-time : goal.restyled-requires-clause-time
 restyled-requires-clause-time g c = subst (λ (t : Micros). IsMoment t.0) (sym c.in_ok-events.ensures.rest.time) c.requires.kept.time
+
+pub restyled-requires-clause-quiet : goal.restyled-requires-clause-quiet
+restyled-requires-clause-quiet g c = λ quiet.
+    subst (λ w. IsQuietFrame (frame_of w)) (sym c.in_ok-events.ensures.world)
+    (ticked_quiet (world_of c.args.state) (c.requires.kept.quiet (sym c.in_ok-events.ensures.rest.quiet ∙ quiet)))
 
 pub returns-clause-world : goal.returns-clause-world
 returns-clause-world g c = frame_is (world_of c.args.state) (world_of c.events_of.new.state) (world_of c.in_ok-state.state) c.in_ok-events.ensures.world c.in_ok-state.ensures.world
