@@ -1,5 +1,5 @@
 -- The winning declarations of an element (CSS Cascade 5, section 6).
-use Rattle.std.specs.Prelude.{◌≡◌, ℕ, nat_eq, Bool, true, false, List, [], ◌∷◌, map, set, length, slice_index_or, find, IfSome, Option, None, Some, option_map, if◌then◌else◌}
+use Rattle.std.specs.Prelude.{◌≡◌, ℕ, nat_eq, Bool, true, false, List, map, set, length, slice_index_or, find, IfSome, Option, None, Some, option_map, if◌then◌else◌}
 use Rattle.value_types.specs.ListValues.{IsListValueFor, timing_lists}
 use Rattle.value_types.specs.Properties.{all_properties, number_of}
 use Rattle.value_types.specs.Validity.{IsDeclaredFor}

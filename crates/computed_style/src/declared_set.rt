@@ -95,12 +95,15 @@ impl Winning {
     }
 
     /// The declarations, to be shared, and the timing lists that they give. Takes no memory where there is none.
-    pub fn finish(self, alloc: Global) -> Result<DeclaredSet, AllocError>
+    pub fn finish(mut self, alloc: Global) -> Result<DeclaredSet, AllocError>
         ensures { IfOk result (λ d. d ≡ self) }
     {
         if self.is_empty() {
             return Ok(DeclaredSet::empty());
         }
+        // They are kept as long as the element keeps its declarations.
+        self.important.shrink_to_fit();
+        self.normal.shrink_to_fit();
         let winners = SharedWinners::new(alloc, self)?;
         Ok(DeclaredSet {
             set: Some(Shared::new(alloc, winners)?),
