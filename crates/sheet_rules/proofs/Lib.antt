@@ -1,6 +1,7 @@
 pub mod ScanLemmas
 pub mod Pairs
 pub mod Within
+pub mod MarkLemmas
 pub mod BlockLemmas
 pub mod DeclarationReadings
 pub mod BlockReadings

@@ -1,6 +1,6 @@
 -- A declaration's value, judged where its end is reached (CSS Cascade 5, section 6.3, "important declarations"; CSS Animations 1,
 -- section 3, "keyframes").
-use Rattle.std.specs.Prelude.{ℕ, ◌-◌, ◌&&◌, ◌||◌, nat_le, not, Bool, true, false, if◌then◌else◌, List, [], filter, length, map, take, codes, slice_get, Option, None, Some, Result, Ok, Err}
+use Rattle.std.specs.Prelude.{◌≡◌, ◌<◌, ℕ, ◌-◌, ◌&&◌, ◌||◌, nat_le, not, Bool, true, false, if◌then◌else◌, List, [], drop, filter, length, map, take, codes, slice_get, Option, None, Some, Result, Ok, Err}
 use Rattle.std.specs.Option.{option_map_or}
 use Rattle.css_token.specs.TokenLists.{bytes_of}
 use Rattle.css_token.specs.declared.token.Kind.{Kind}
@@ -56,6 +56,16 @@ ends_important text ts = nat_le 2 (length ts) && option_map_or (is_mark text) (s
 abbrev pub unmarked : List ℕ → List Token → List Token
 unmarked text ts = if ends_important text ts then take (length ts - 2) ts else ts
 
+-- the last solid token stands there, and nothing but spaces after it; none where all are spaces
+abbrev pub IsLastSolid : List Token → Option ℕ → Type 0
+IsLastSolid ts None = solid ts ≡ []
+IsLastSolid ts (Some n) = (n < length ts) × (solid (drop n ts) ≡ take 1 (drop n ts))
+
+-- an `!important` at the end begins there
+abbrev pub IsMarkAt : List ℕ → List Token → Option ℕ → Type 0
+IsMarkAt text ts None = ends_important text (solid ts) ≡ false
+IsMarkAt text ts (Some n) = (ends_important text (solid ts) ≡ true) × (unmarked text (solid ts) ≡ solid (take n ts))
+
 -- ---- what a block has no use for
 
 -- what keyframes may animate
@@ -93,6 +103,10 @@ abbrev pub declarations_of : KnownName → ℕ → ℕ → Bool → Result (List
     → Result (List DeclarationParts) CssFault
 declarations_of name at place important (Ok longhands) = Ok (map (declaration_of place important) longhands)
 declarations_of name at place important (Err fault) = Err (fault_at name at fault)
+
+-- what the tokens declare of a known name
+abbrev pub read_as : ℕ → ℕ → Bool → List ℕ → List Token → KnownName → Result (List DeclarationParts) CssFault
+read_as place at important text tokens name = declarations_of name at place important (declared_of name (token_parts_of text tokens))
 
 -- what a declaration of a known name with this value gives the block
 abbrev pub judged_as : BlockKind → ℕ → ℕ → List ℕ → List Token → KnownName → Result (List DeclarationParts) CssFault

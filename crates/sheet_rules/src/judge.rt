@@ -2,7 +2,8 @@
 ghost use Rattle.std.specs.Prelude.{◌≡◌, ◌++◌, All, IfOk, OnOk, map};
 ghost use Rattle.css_token.specs.TokenLists.{LiesWithin, bytes_of};
 ghost use Rattle.shorthand_text.specs.Longhands.{IsLonghand};
-ghost use Rattle.sheet_rules.specs.Declarations.{declaration_of, ends_important, fault_at, is_animatable, is_dropped, is_important, is_mark, judged, judged_as, solid, unmarked};
+ghost use Rattle.shorthand_text.specs.declared.known_name.KnownName.TheVariants.{Property};
+ghost use Rattle.sheet_rules.specs.Declarations.{IsLastSolid, IsMarkAt, declaration_of, ends_important, fault_at, is_animatable, is_dropped, is_important, is_mark, judged, judged_as, read_as, solid, unmarked};
 ghost use Rattle.sheet_rules.specs.Faults.{GivesMore};
 
 use crate::block_kind::BlockKind;
@@ -13,6 +14,7 @@ use sheet_types::{Declaration, DeclarationParts};
 use shorthand_text::{KnownName, Longhand, read_longhands};
 use std::alloc::{AllocError, Global};
 use token_parts::{ValueFault, is_keyword};
+use value_text::read_value;
 use value_types::{ListName, PropertyId, Shorthand};
 
 /// The bytes of a token of the text.
@@ -50,16 +52,53 @@ fn is_important(text: &[u8], token: &Token) -> bool
     matches!(token.kind, Kind::Ident) && is_keyword(bytes_of(text, token), b"important")
 }
 
-/// Whether the solid tokens end with `!important`.
-fn ends_important(text: &[u8], tokens: &[Token]) -> bool
-    requires { All (LiesWithin text.now) tokens.now }
-    ensures { result ≡ ends_important text.now tokens.now }
+/// Where the last solid token stands; `None` where all are spaces.
+fn last_solid(tokens: &[Token]) -> Option<usize>
+    ensures { IsLastSolid tokens.now result }
 {
-    let count = tokens.len();
-    if count < 2 {
-        return false;
+    let mut count = tokens.len();
+    while count > 0 {
+        count -= 1;
+        if !is_space(&tokens[count]) {
+            return Some(count);
+        }
     }
-    is_mark(text, &tokens[count - 2]) && is_important(text, &tokens[count - 1])
+    None
+}
+
+/// Where an `!important` at the end of the tokens begins.
+fn mark_at(text: &[u8], tokens: &[Token]) -> Option<usize>
+    requires { All (LiesWithin text.now) tokens.now }
+    ensures { IsMarkAt text.now tokens.now result }
+{
+    let Some(last) = last_solid(tokens) else {
+        return None;
+    };
+    if !is_important(text, &tokens[last]) {
+        return None;
+    }
+    let before = front(tokens, last);
+    let Some(mark) = last_solid(before) else {
+        return None;
+    };
+    if is_mark(text, &before[mark]) {
+        Some(mark)
+    } else {
+        None
+    }
+}
+
+/// Whether the tokens end with `!important`, and those before it.
+fn importance<'a>(text: &[u8], tokens: &'a [Token]) -> (bool, &'a [Token])
+    requires { All (LiesWithin text.now) tokens.now }
+    ensures important { result.0 ≡ ends_important text.now (solid tokens.now) }
+    ensures value { solid result.1.now ≡ unmarked text.now (solid tokens.now) }
+    ensures within { All (LiesWithin text.now) result.1.now }
+{
+    match mark_at(text, tokens) {
+        Some(count) => (true, front(tokens, count)),
+        None => (false, tokens),
+    }
 }
 
 fn is_animatable(name: KnownName) -> bool
@@ -119,6 +158,62 @@ fn append(
     Ok(())
 }
 
+/// Appends what the tokens declare of the property.
+#[tactic(auto, unfolding(shorthand_text::specs::Declaring::declared_of))]
+fn read_property(
+    alloc: Global,
+    found: &mut Vec<Declaration>,
+    place: u32,
+    at: u32,
+    important: bool,
+    text: &str,
+    tokens: &[Token],
+    p: PropertyId,
+) -> Result<(), CssFault>
+    requires { All (LiesWithin text.now) tokens.now }
+    ensures { GivesMore found.old.items found.new.items result (read_as place at important text.now tokens.now (Property p)) }
+{
+    match read_value(alloc, p, text, tokens) {
+        Err(fault) => Err(fault_at(KnownName::Property(p), at, fault)),
+        Ok(declared) => {
+            let declaration = Declaration::new(DeclarationParts {
+                longhand: Longhand::Property(p, declared),
+                important,
+                place,
+            });
+            let Ok(()) = found.push(declaration) else {
+                return Err(CssFault::NoMemory);
+            };
+            Ok(())
+        }
+    }
+}
+
+/// Appends what the tokens declare of the name.
+fn read_name(
+    alloc: Global,
+    found: &mut Vec<Declaration>,
+    place: u32,
+    at: u32,
+    important: bool,
+    text: &str,
+    tokens: &[Token],
+    name: KnownName,
+) -> Result<(), CssFault>
+    requires { All (LiesWithin text.now) tokens.now }
+    ensures { GivesMore found.old.items found.new.items result (read_as place at important text.now tokens.now name) }
+{
+    match read_longhands(alloc, name, text, tokens) {
+        Err(fault) => Err(fault_at(name, at, fault)),
+        Ok(longhands) => {
+            let Ok(()) = append(found, longhands, important, place) else {
+                return Err(CssFault::NoMemory);
+            };
+            Ok(())
+        }
+    }
+}
+
 /// Appends what a declaration of the name with this value gives the block; `at` is where the name stands.
 fn judge_as(
     alloc: Global,
@@ -131,33 +226,17 @@ fn judge_as(
     name: KnownName,
 ) -> Result<(), CssFault>
     requires { All (LiesWithin text.now) tokens.now }
-    ensures { GivesMore found.old.items found.new.items result (judged_as block place at text.now tokens.now name) }
+    ensures { GivesMore found.old.items found.new.items result (judged_as block place at text.now (solid tokens.now) name) }
 {
-    let important = ends_important(text.as_bytes(), tokens);
+    let (important, value) = importance(text.as_bytes(), tokens);
     if is_dropped(block, name, important) {
         return Ok(());
     }
-    match read_longhands(alloc, name, text, unmarked(text.as_bytes(), tokens)) {
-        Err(fault) => Err(fault_at(name, at, fault)),
-        Ok(longhands) => {
-            let Ok(()) = append(found, longhands, important, place) else {
-                return Err(CssFault::NoMemory);
-            };
-            Ok(())
+    match name {
+        KnownName::Property(p) => {
+            read_property(alloc, found, place, at, important, text, value, p)
         }
-    }
-}
-
-/// The solid tokens without `!important` at their end.
-fn unmarked<'a>(text: &[u8], tokens: &'a [Token]) -> &'a [Token]
-    requires { All (LiesWithin text.now) tokens.now }
-    ensures value { result.now ≡ unmarked text.now tokens.now }
-    ensures within { All (LiesWithin text.now) result.now }
-{
-    if ends_important(text, tokens) {
-        front(tokens, tokens.len() - 2)
-    } else {
-        tokens
+        _ => read_name(alloc, found, place, at, important, text, value, name),
     }
 }
 
@@ -176,11 +255,8 @@ pub(crate) fn judge(
     requires { All (LiesWithin text.now) tokens.now }
     ensures { GivesMore found.old.items found.new.items result (judged block place at text.now (solid tokens.now) name) }
 {
-    let Some(name) = name else {
-        return Ok(());
-    };
-    let Ok(solid) = solid(alloc, tokens) else {
-        return Err(CssFault::NoMemory);
-    };
-    judge_as(alloc, found, block, place, at, text, &solid, name)
+    match name {
+        None => Ok(()),
+        Some(name) => judge_as(alloc, found, block, place, at, text, tokens, name),
+    }
 }
