@@ -16,10 +16,10 @@ use Rattle.style_data.specs.Entries.{EntryParts}
 use Rattle.style_data.specs.declared.animation.AnimationState.{AnimationState}
 use Rattle.timing_types.specs.TimingLists.{AnimationValues, initial_animations}
 use Rattle.transition_update.specs.declared.event.StyleChangeEvent.{StyleChangeEvent}
-use Rattle.element_step.specs.Quiet.{handed_at_rest, is_at_rest, moving_step, quiet_down, quiet_outcome}
+use Rattle.element_step.specs.Quiet.{declared_in, handed_at_rest, is_at_rest, moving_step, quiet_down, quiet_outcome}
 use Rattle.element_step.specs.Rendering.{is_rendered}
 use Rattle.element_step.specs.Updates.{element_update}
-use Rattle.element_step.specs.Works.{DocumentEvent, animated_values_in, animation_lists_after, animations_before, animations_updated, element_declarations, handed_by, entry_at, event_at, from_parent, outcome_in, paired_at, top_down, update_at}
+use Rattle.element_step.specs.Works.{DocumentEvent, animated_values_in, animation_lists_after, animations_before, animations_updated, element_declarations, entry_with, event_at, from_parent, handed_with, outcome_in, outcome_with, paired_with, top_down, update_at, update_with}
 use Rattle.element_step.specs.declared.quiet.QuietDown.{QuietDown}
 
 -- ---- animations
@@ -41,46 +41,47 @@ nothing_paired sheets time generation position = refl
 -- ---- the update
 
 pub update_is : (w : DocumentEvent) (n : ℕ) (entry : EntryParts) (parent : Option Down) (d : Declarations) (old new : AnimatedValues) (animations : List AnimationState) (root_size : Option Fix) (event : StyleChangeEvent)
-    → d ≡ element_declarations w n → old ≡ animated_values_in w w.old entry.effects.animations → new ≡ animated_values_in w w.sheets animations → animations ≡ (paired_at w n entry parent).animations
-    → root_size ≡ w.root_size → event ≡ event_at w n → element_update entry d parent old new animations root_size event ≡ update_at w n entry parent
-unfolding update_at
-update_is w n entry parent d old new animations root_size event declared olds news paired size at =
-    ap (λ v. element_update entry v parent old new animations root_size event) declared
-    ∙ ap (λ v. element_update entry (element_declarations w n) parent v new animations root_size event) olds
-    ∙ ap (λ v. element_update entry (element_declarations w n) parent (animated_values_in w w.old entry.effects.animations) v animations root_size event) news
-    ∙ ap (λ v. element_update entry (element_declarations w n) parent (animated_values_in w w.old entry.effects.animations) (animated_values_in w w.sheets v) v root_size event) paired
-    ∙ ap (λ v. element_update entry (element_declarations w n) parent (animated_values_in w w.old entry.effects.animations) (animated_values_in w w.sheets (paired_at w n entry parent).animations) (paired_at w n entry parent).animations v event) size
-    ∙ ap (λ v. element_update entry (element_declarations w n) parent (animated_values_in w w.old entry.effects.animations) (animated_values_in w w.sheets (paired_at w n entry parent).animations) (paired_at w n entry parent).animations w.root_size v) at
+    → old ≡ animated_values_in w w.old entry.effects.animations → new ≡ animated_values_in w w.sheets animations → animations ≡ (paired_with w n entry d parent).animations
+    → root_size ≡ w.root_size → event ≡ event_at w n → element_update entry d parent old new animations root_size event ≡ update_with w n entry d parent
+update_is w n entry parent d old new animations root_size event olds news paired size at =
+    ap (λ v. element_update entry d parent v new animations root_size event) olds
+    ∙ ap (λ v. element_update entry d parent (animated_values_in w w.old entry.effects.animations) v animations root_size event) news
+    ∙ ap (λ v. element_update entry d parent (animated_values_in w w.old entry.effects.animations) (animated_values_in w w.sheets v) v root_size event) paired
+    ∙ ap (λ v. element_update entry d parent (animated_values_in w w.old entry.effects.animations) (animated_values_in w w.sheets (paired_with w n entry d parent).animations) (paired_with w n entry d parent).animations v event) size
+    ∙ ap (λ v. element_update entry d parent (animated_values_in w w.old entry.effects.animations) (animated_values_in w w.sheets (paired_with w n entry d parent).animations) (paired_with w n entry d parent).animations w.root_size v) at
 
 -- the animations of the event at the element, by its parts
 pub pairs_at : (w : DocumentEvent) (n : ℕ) (entry : EntryParts) (parent : Option Down) (event : StyleChangeEvent) (rendered : Bool) (d : Declarations)
-    → event ≡ event_at w n → rendered ≡ is_rendered d parent → d ≡ element_declarations w n → animations_updated w event rendered entry d ≡ paired_at w n entry parent
-pairs_at w n entry parent event rendered d at shown declared =
-    ap (λ v. animations_updated w v rendered entry d) at ∙ ap (λ v. animations_updated w (event_at w n) v entry d) shown
-    ∙ ap (λ v. animations_updated w (event_at w n) (is_rendered v parent) entry v) declared
+    → event ≡ event_at w n → rendered ≡ is_rendered d parent → animations_updated w event rendered entry d ≡ paired_with w n entry d parent
+pairs_at w n entry parent event rendered d at shown = ap (λ v. animations_updated w v rendered entry d) at ∙ ap (λ v. animations_updated w (event_at w n) v entry d) shown
 
 -- ---- the outcome
 
-pub outside_is : (w : DocumentEvent) (n : ℕ) (entry : EntryParts) (down : Down) → is_in n w.document.elements ≡ false → outcome_in w n entry down ≡ Kept down
-unfolding outcome_in
-outside_is w n entry down is = rw is refl
+pub outside_is : (w : DocumentEvent) (n : ℕ) (entry : EntryParts) (d : Declarations) (down : Down) → is_in n w.document.elements ≡ false → outcome_with w n entry d down ≡ Kept down
+unfolding outcome_with
+outside_is w n entry d down is = rw is refl
 
-pub inside_is : (w : DocumentEvent) (n : ℕ) (entry : EntryParts) (down : Down) → is_in n w.document.elements ≡ true
-    → Updated (entry_at w n entry (from_parent w n down)) (handed_by w n entry (from_parent w n down)) ≡ outcome_in w n entry down
-unfolding outcome_in
-inside_is w n entry down is = rw is refl
+pub inside_is : (w : DocumentEvent) (n : ℕ) (entry : EntryParts) (d : Declarations) (down : Down) → is_in n w.document.elements ≡ true
+    → Updated (entry_with w n entry d (from_parent w n down)) (handed_with w n entry d (from_parent w n down)) ≡ outcome_with w n entry d down
+unfolding outcome_with
+inside_is w n entry d down is = rw is refl
+
+-- an element declares what the sheets and its style attribute tell
+pub outcome_is : (w : DocumentEvent) (n : ℕ) (entry : EntryParts) (down : Down) → outcome_with w n entry (element_declarations w n) down ≡ outcome_in w n entry down
+unfolding outcome_with outcome_in update_at
+outcome_is w n entry down = refl
 
 -- ---- the outcome in a quiet event
 
-pub at_rest_is : (w : DocumentEvent) (n : ℕ) (entry : EntryParts) (down : QuietDown) → (down.rests && is_at_rest entry) ≡ true
-    → Kept (quiet_down (Some (handed_at_rest entry down.parent)) true) ≡ quiet_outcome w n entry down
+pub at_rest_is : (quiet : Bool) (w : DocumentEvent) (n : ℕ) (entry : EntryParts) (down : QuietDown) → (down.rests && is_at_rest entry) ≡ true
+    → Kept (quiet_down (Some (handed_at_rest entry down.parent)) true) ≡ quiet_outcome quiet w n entry down
 unfolding quiet_outcome
-at_rest_is w n entry down is = rw is refl
+at_rest_is quiet w n entry down is = rw is refl
 
-pub in_motion_is : (w : DocumentEvent) (n : ℕ) (entry : EntryParts) (down : QuietDown) → (down.rests && is_at_rest entry) ≡ false
-    → moving_step (outcome_in w n entry (unwrap_or down.parent top_down)) ≡ quiet_outcome w n entry down
+pub in_motion_is : (quiet : Bool) (w : DocumentEvent) (n : ℕ) (entry : EntryParts) (down : QuietDown) → (down.rests && is_at_rest entry) ≡ false
+    → moving_step (outcome_with w n entry (declared_in quiet w n entry) (unwrap_or down.parent top_down)) ≡ quiet_outcome quiet w n entry down
 unfolding quiet_outcome
-in_motion_is w n entry down is = rw is refl
+in_motion_is quiet w n entry down is = rw is refl
 
 -- nothing is left of an empty list
 pub empty_of : {X : Type 0} (xs : List X) → (length xs == 0) ≡ true → xs ≡ []

@@ -2,6 +2,7 @@
 -- entry as it is (CSS Transitions 1, section 3 "Starting of transitions").
 use Rattle.std.specs.Prelude.{ℕ, ◌==◌, Bool, true, false, ◌&&◌, length, Option, None, Some, unwrap_or, if◌then◌else◌}
 use Rattle.change_styles.specs.Inheritance.{handed_down}
+use Rattle.computed_style.specs.Winners.{Declarations}
 use Rattle.computed_style.specs.declared.inherited.Down.{Down}
 use Rattle.computed_style.specs.declared.inherited.InheritedValues.{InheritedValues}
 use Rattle.pass_core.specs.Work.{Meaning}
@@ -9,7 +10,7 @@ use Rattle.pass_core.specs.declared.step.Step.{Step}
 use Rattle.pass_core.specs.declared.step.Step.TheVariants.{Kept, Updated}
 use Rattle.style_data.specs.Entries.{EffectLists, EntryParts}
 use Rattle.element_step.specs.Updates.{now_parent}
-use Rattle.element_step.specs.Works.{DocumentEvent, outcome_in, top_down}
+use Rattle.element_step.specs.Works.{DocumentEvent, element_declarations, outcome_with, top_down}
 use Rattle.element_step.specs.declared.quiet.QuietDown.{QuietDown}
 
 -- there is no transition and no animation, and nothing that was cancelled waits for its event
@@ -37,12 +38,16 @@ abbrev pub moving_step : Step EntryParts Down → Step EntryParts QuietDown
 moving_step (Updated entry down) = Updated entry (quiet_down (Some down) false)
 moving_step (Kept down) = Kept (quiet_down (Some down) false)
 
+-- what an element declares: in a quiet event what it did at the event before
+abbrev pub declared_in : Bool → DocumentEvent → ℕ → EntryParts → Declarations
+declared_in quiet w n entry = (if quiet then entry.declared else element_declarations w n)
+
 -- the outcome of an element's update: where it and its ancestors are at rest it is kept
-unfoldable pub quiet_outcome : DocumentEvent → ℕ → EntryParts → QuietDown → Step EntryParts QuietDown
-quiet_outcome w n entry down =
+unfoldable pub quiet_outcome : Bool → DocumentEvent → ℕ → EntryParts → QuietDown → Step EntryParts QuietDown
+quiet_outcome quiet w n entry down =
     (if down.rests && is_at_rest entry then Kept (quiet_down (Some (handed_at_rest entry down.parent)) true)
-    else moving_step (outcome_in w n entry (unwrap_or down.parent top_down)))
+    else moving_step (outcome_with w n entry (declared_in quiet w n entry) (unwrap_or down.parent top_down)))
 
 -- an element whose parent isn't in the plan has none that moves, where the event is quiet
 abbrev pub quiet_meaning : Bool → DocumentEvent → Meaning EntryParts QuietDown
-quiet_meaning quiet w = record { outcome = quiet_outcome w; top = quiet_down None quiet }
+quiet_meaning quiet w = record { outcome = quiet_outcome quiet w; top = quiet_down None quiet }

@@ -65,19 +65,34 @@ animations_updated w event rendered entry d =
 abbrev pub element_declarations : DocumentEvent → ℕ → Declarations
 element_declarations w n = declared_of w.sheets w.document.elements n
 
--- its animations after the event, under a parent that hands this down
-abbrev pub paired_at : DocumentEvent → ℕ → EntryParts → Option Down → PairedLists
-paired_at w n entry parent = animations_updated w (event_at w n) (is_rendered (element_declarations w n) parent) entry (element_declarations w n)
+-- its animations after the event where it declares d, under a parent that hands this down
+abbrev pub paired_with : DocumentEvent → ℕ → EntryParts → Declarations → Option Down → PairedLists
+paired_with w n entry d parent = animations_updated w (event_at w n) (is_rendered d parent) entry d
 
--- its update
+-- its update where it declares d
+abbrev pub update_with : DocumentEvent → ℕ → EntryParts → Declarations → Option Down → ElementUpdate
+update_with w n entry d parent =
+    element_update entry d parent (animated_values_in w w.old entry.effects.animations) (animated_values_in w w.sheets (paired_with w n entry d parent).animations)
+    (paired_with w n entry d parent).animations w.root_size (event_at w n)
+
+-- the same, where it declares what it does
+abbrev pub paired_at : DocumentEvent → ℕ → EntryParts → Option Down → PairedLists
+paired_at w n entry parent = paired_with w n entry (element_declarations w n) parent
+
 unfoldable pub update_at : DocumentEvent → ℕ → EntryParts → Option Down → ElementUpdate
-update_at w n entry parent =
-    element_update entry (element_declarations w n) parent (animated_values_in w w.old entry.effects.animations)
-    (animated_values_in w w.sheets (paired_at w n entry parent).animations) (paired_at w n entry parent).animations w.root_size (event_at w n)
+update_at w n entry parent = update_with w n entry (element_declarations w n) parent
 
 -- its entry after the event
 abbrev pub entry_at : DocumentEvent → ℕ → EntryParts → Option Down → EntryParts
 entry_at w n entry parent = entry_after (update_at w n entry parent) (paired_at w n entry parent).gone
+
+-- the same where it declares d
+abbrev pub entry_with : DocumentEvent → ℕ → EntryParts → Declarations → Option Down → EntryParts
+entry_with w n entry d parent = entry_after (update_with w n entry d parent) (paired_with w n entry d parent).gone
+
+-- what it hands down where it declares d
+abbrev pub handed_with : DocumentEvent → ℕ → EntryParts → Declarations → Option Down → Down
+handed_with w n entry d parent = down_after (update_with w n entry d parent)
 
 -- what it hands down
 abbrev pub handed_by : DocumentEvent → ℕ → EntryParts → Option Down → Down
@@ -93,6 +108,11 @@ from_parent w n down = option_map (λ _. down) (parent_of n w.document.elements)
 unfoldable pub outcome_in : DocumentEvent → ℕ → EntryParts → Down → Step EntryParts Down
 outcome_in w n entry down =
     (if is_in n w.document.elements then Updated (entry_at w n entry (from_parent w n down)) (handed_by w n entry (from_parent w n down)) else Kept down)
+
+-- the same of an element that declares d
+unfoldable pub outcome_with : DocumentEvent → ℕ → EntryParts → Declarations → Down → Step EntryParts Down
+outcome_with w n entry d down =
+    (if is_in n w.document.elements then Updated (entry_with w n entry d (from_parent w n down)) (handed_with w n entry d (from_parent w n down)) else Kept down)
 
 -- what stands above the document: the initial values
 abbrev pub top_down : Down

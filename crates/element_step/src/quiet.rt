@@ -1,11 +1,11 @@
 //! The work of a style change event that passes over elements at rest.
 
 ghost use Rattle.std.specs.Prelude.{◌≡◌, ◌&&◌, IfOk, None, Some, option_copied, unwrap_or, if◌then◌else◌};
-ghost use Rattle.element_step.specs.Quiet.{handed_at_rest, has_no_effects, is_at_rest, moving_step, quiet_outcome};
-ghost use Rattle.element_step.specs.Works.{outcome_in, top_down};
+ghost use Rattle.element_step.specs.Quiet.{declared_in, handed_at_rest, has_no_effects, is_at_rest, moving_step, quiet_outcome};
+ghost use Rattle.element_step.specs.Works.{outcome_with, top_down};
 
 use crate::downs::now_parent;
-use crate::work::{ElementWork, top, update_element};
+use crate::work::{ElementWork, top, update_element, update_unedited};
 use change_styles::handed_down;
 use pass_core::{Step, TreeWork};
 use std::alloc::{AllocError, Global};
@@ -44,7 +44,7 @@ impl TreeWork for QuietWork {
         entry: &Entry,
         down: &QuietDown,
     ) -> Result<Step<Entry, QuietDown>, AllocError> {
-        update_unless_at_rest(alloc, &self.work, element, entry, down)
+        update_unless_at_rest(alloc, self, element, entry, down)
     }
 
     fn top(&self) -> QuietDown {
@@ -58,12 +58,12 @@ impl TreeWork for QuietWork {
 /// The update of an element: where it is at rest, under ancestors at rest in a quiet event, it is kept as it is.
 fn update_unless_at_rest(
     alloc: Global,
-    work: &ElementWork,
+    work: &QuietWork,
     element: u32,
     entry: &Entry,
     down: &QuietDown,
 ) -> Result<Step<Entry, QuietDown>, AllocError>
-    ensures { IfOk result (λ step. step ≡ quiet_outcome work.now element entry.now down.entry.now) }
+    ensures { IfOk result (λ step. step ≡ quiet_outcome work.now.quiet work.now.work element entry.now down.entry.now) }
 {
     if is_passed_over(down.rests, entry) {
         let parent = Some(handed_at_rest(entry, down.parent.as_ref()));
@@ -79,16 +79,33 @@ fn update_unless_at_rest(
 /// The update of an element over what its parent hands down.
 fn update_below(
     alloc: Global,
-    work: &ElementWork,
+    work: &QuietWork,
     element: u32,
     entry: &Entry,
     parent: Option<&Down>,
 ) -> Result<Step<Entry, Down>, AllocError>
-    ensures { IfOk result (λ step. step ≡ outcome_in work.now element entry.now (unwrap_or (option_copied parent.entry) top_down)) }
+    ensures { IfOk result (λ step. step ≡ outcome_with work.now.work element entry.now (declared_in work.now.quiet work.now.work element entry.now) (unwrap_or (option_copied parent.entry) top_down)) }
 {
     match parent {
-        None => update_element(alloc, work, element, entry, &top()),
-        Some(down) => update_element(alloc, work, element, entry, down),
+        None => update_in(alloc, work, element, entry, &top()),
+        Some(down) => update_in(alloc, work, element, entry, down),
+    }
+}
+
+/// The same under what is handed down: in a quiet event the element declares what it did at the event before.
+fn update_in(
+    alloc: Global,
+    work: &QuietWork,
+    element: u32,
+    entry: &Entry,
+    down: &Down,
+) -> Result<Step<Entry, Down>, AllocError>
+    ensures { IfOk result (λ step. step ≡ outcome_with work.now.work element entry.now (declared_in work.now.quiet work.now.work element entry.now) down.entry.now) }
+{
+    if work.quiet {
+        update_unedited(alloc, &work.work, element, entry, down)
+    } else {
+        update_element(alloc, &work.work, element, entry, down)
     }
 }
 

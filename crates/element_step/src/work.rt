@@ -7,7 +7,7 @@ ghost use Rattle.style_data.specs.Entries.{AreAscending};
 ghost use Rattle.style_data.specs.Transitions.{IsMoment};
 ghost use Rattle.timing_types.specs.TimingLists.{initial_animations};
 ghost use Rattle.value_types.specs.Ranges.{IsSize};
-ghost use Rattle.element_step.specs.Works.{animation_lists_after, animations_before, animations_updated, document_event, handed_by, entry_at, event_at, from_parent, outcome_in, top_down};
+ghost use Rattle.element_step.specs.Works.{animation_lists_after, animations_before, animations_updated, document_event, entry_with, event_at, from_parent, handed_with, outcome_in, outcome_with, top_down};
 
 use crate::rendering::is_rendered;
 use crate::update::{ElementUpdated, update_entry};
@@ -154,8 +154,42 @@ pub fn update_element(
     if !work.tree.contains(element) {
         return Ok(Step::Kept(*down));
     }
+    let last = entry.declared();
+    let declared = declared_like(alloc, &work.sheets, &work.tree, element, last)?;
+    update_declaring(alloc, work, element, entry, declared, down)
+}
+
+/// The same where the element declares what it did at the event before.
+pub(crate) fn update_unedited(
+    alloc: Global,
+    work: &ElementWork,
+    element: u32,
+    entry: &Entry,
+    down: &Down,
+) -> Result<Step<Entry, Down>, AllocError>
+    ensures { IfOk result (λ step. step ≡ outcome_with work.now element entry.now entry.now.declared down.entry.now) }
+{
+    if !work.tree.contains(element) {
+        return Ok(Step::Kept(*down));
+    }
+    let declared = entry.declared().copy()?;
+    update_declaring(alloc, work, element, entry, declared, down)
+}
+
+/// The same where the element is in the tree and declares this.
+fn update_declaring(
+    alloc: Global,
+    work: &ElementWork,
+    element: u32,
+    entry: &Entry,
+    declared: DeclaredSet,
+    down: &Down,
+) -> Result<Step<Entry, Down>, AllocError>
+    requires { IsTrue (is_in element work.now.document.elements) }
+    ensures { IfOk result (λ step. step ≡ outcome_with work.now element entry.now declared down.entry.now) }
+{
     let parent = from_parent(work, element, down);
-    let updated = update_within(alloc, work, element, entry, parent)?;
+    let updated = update_within(alloc, work, element, entry, declared, parent)?;
     Ok(Step::Updated(updated.entry, updated.down))
 }
 
@@ -169,21 +203,19 @@ fn from_parent<'a>(work: &ElementWork, element: u32, down: &'a Down) -> Option<&
     }
 }
 
-/// The update of an element that is in the tree.
+/// The update of an element that declares this.
 fn update_within(
     alloc: Global,
     work: &ElementWork,
     element: u32,
     entry: &Entry,
+    declared: DeclaredSet,
     parent: Option<&Down>,
 ) -> Result<ElementUpdated, AllocError>
-    requires { IsTrue (is_in element work.now.document.elements) }
-    ensures entry { IfOk result (λ u. u.entry ≡ entry_at work.now element entry.now (option_copied parent.entry)) }
-    ensures down { IfOk result (λ u. u.down ≡ handed_by work.now element entry.now (option_copied parent.entry)) }
+    ensures entry { IfOk result (λ u. u.entry ≡ entry_with work.now element entry.now declared (option_copied parent.entry)) }
+    ensures down { IfOk result (λ u. u.down ≡ handed_with work.now element entry.now declared (option_copied parent.entry)) }
 {
     let event = work.event_at(element);
-    let last = entry.declared();
-    let declared = declared_like(alloc, &work.sheets, &work.tree, element, last)?;
     let rendered = is_rendered(&declared, parent);
     let old = sampled(alloc, entry.animations(), &work.old, work.time)?;
     let paired = update_animations(alloc, work, event, rendered, entry, &declared)?;

@@ -1,21 +1,23 @@
-use Rattle.std.proofs.Common.{◌∙◌, ap, sym}
+use Rattle.std.proofs.Common.{◌≡◌, ◌∙◌, ap, subst, sym}
+use Rattle.std.specs.Prelude.{IfOk}
+use Rattle.cascade_sort.specs.Winning.{declared_of}
 use Rattle.doc_tree.specs.Element.{is_in}
-use Rattle.pass_core.specs.declared.step.Step.TheVariants.{Updated}
-use Rattle.element_step.specs.Works.{DocumentEvent, handed_by, entry_at, from_parent}
-use Rattle.element_step.proofs.Working.{inside_is, outside_is}
+use Rattle.element_step.specs.Works.{DocumentEvent, element_declarations, outcome_with}
+use Rattle.element_step.proofs.Working.{outcome_is, outside_is}
 use Rattle.element_step.proofs.work.update_element.Goals as goal
 
 pub returns-then-not-contains : goal.returns-then-not-contains
 returns-then-not-contains c =
-    sym (outside_is c.args.work.now c.args.element c.args.entry.now c.args.down.now
+    sym (outside_is c.args.work.now c.args.element c.args.entry.now (element_declarations c.args.work.now c.args.element) c.args.down.now
     (sym (ap (λ (v : DocumentEvent). is_in c.args.element v.document.elements) c.work.view_is) ∙ sym c.contains.ensures ∙ c.if-not-contains.true))
+    ∙ outcome_is c.args.work.now c.args.element c.args.entry.now c.args.down.now
 
 pub returns : goal.returns
 returns c =
     let w = c.args.work.now in
     let n = c.args.element in
-    let entry = c.args.entry.now in
-    let parent_is = c.from_parent-parent.ensures in
-    ap (λ e. Updated e c.in_ok-updated.updated.down) (c.in_ok-updated.ensures.entry ∙ ap (entry_at w n entry) parent_is)
-    ∙ ap (λ d. Updated (entry_at w n entry (from_parent w n c.args.down.now)) d) (c.in_ok-updated.ensures.down ∙ ap (handed_by w n entry) parent_is)
-    ∙ inside_is w n entry c.args.down.now (sym (ap (λ (v : DocumentEvent). is_in n v.document.elements) c.work.view_is) ∙ sym c.contains.ensures ∙ c.if-not-contains.false)
+    subst (λ s. IfOk c.update_declaring.result (λ step. step ≡ s))
+    (ap (λ d. outcome_with w n c.args.entry.now d c.args.down.now)
+    (c.in_ok-declared.ensures.value ∙ ap (λ (v : DocumentEvent). declared_of v.sheets v.document.elements n) c.work.view_is)
+    ∙ outcome_is w n c.args.entry.now c.args.down.now)
+    c.update_declaring.ensures

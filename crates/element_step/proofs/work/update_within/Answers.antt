@@ -2,11 +2,10 @@ use Rattle.std.proofs.Common.{◌≡◌, ◌∙◌, ap, subst}
 use Rattle.std.specs.Prelude.{IfOk, option_copied}
 use Rattle.animation_names.specs.Samples.{samples_of}
 use Rattle.animation_names.specs.Updates.{PairedLists}
-use Rattle.cascade_sort.specs.Winning.{declared_of}
 use Rattle.keyframes.specs.SampleLists.{value_of_samples}
 use Rattle.keyframes.specs.SamplesIn.{samples_in}
 use Rattle.element_step.specs.Updates.{ElementUpdate, down_after, element_update, entry_after}
-use Rattle.element_step.specs.Works.{DocumentEvent, animated_values_in, animations_updated, element_declarations, paired_at, update_at}
+use Rattle.element_step.specs.Works.{DocumentEvent, animated_values_in, animations_updated, paired_with, update_with}
 use Rattle.element_step.proofs.Working.{pairs_at, update_is}
 use Rattle.element_step.proofs.work.update_within.Goals as goal
 
@@ -14,12 +13,9 @@ module _ (c : goal.After-drop-old-2) where
   abbrev w : DocumentEvent
   w = c.args.work.now
 
-  declared_is : c.in_ok-declared.declared ≡ element_declarations w c.args.element
-  declared_is = c.in_ok-declared.ensures.value ∙ ap (λ (v : DocumentEvent). declared_of v.sheets v.document.elements c.args.element) c.work.view_is
-
-  pairs : animations_updated w c.event_at-event.result c.is_rendered-rendered.result c.args.entry.now c.in_ok-declared.declared ≡ paired_at w c.args.element c.args.entry.now (option_copied c.args.parent)
-  pairs = pairs_at w c.args.element c.args.entry.now (option_copied c.args.parent) c.event_at-event.result c.is_rendered-rendered.result c.in_ok-declared.declared
-      c.event_at-event.ensures.value c.is_rendered-rendered.ensures declared_is
+  pairs : animations_updated w c.event_at-event.result c.is_rendered-rendered.result c.args.entry.now c.args.declared ≡ paired_with w c.args.element c.args.entry.now c.args.declared (option_copied c.args.parent)
+  pairs = pairs_at w c.args.element c.args.entry.now (option_copied c.args.parent) c.event_at-event.result c.is_rendered-rendered.result c.args.declared c.event_at-event.ensures.value
+      c.is_rendered-rendered.ensures
 
   olds : value_of_samples (samples_in c.in_ok-old.old) ≡ animated_values_in w w.old c.args.entry.now.effects.animations
   olds = ap value_of_samples (c.in_ok-old.ensures ∙ ap (λ xs. samples_of xs c.work.inside.old c.work.inside.time.0) c.animations.ensures.value
@@ -29,14 +25,14 @@ module _ (c : goal.After-drop-old-2) where
   news = ap value_of_samples (c.in_ok-new.ensures ∙ ap (λ xs. samples_of xs c.work.inside.sheets c.work.inside.time.0) c.as_slice.ensures.value
       ∙ ap (λ (v : DocumentEvent). samples_of c.in_ok-paired.paired.animations.items v.sheets v.time.0) c.work.view_is)
 
-  whole : element_update c.args.entry.now c.in_ok-declared.declared (option_copied c.args.parent) (value_of_samples (samples_in c.in_ok-old.old)) (value_of_samples (samples_in c.in_ok-new.new)) c.in_ok-paired.paired.animations.items c.work.inside.root_size c.event_at-event.result
-      ≡ update_at w c.args.element c.args.entry.now (option_copied c.args.parent)
-  whole = update_is w c.args.element c.args.entry.now (option_copied c.args.parent) c.in_ok-declared.declared _ _ c.in_ok-paired.paired.animations.items c.work.inside.root_size c.event_at-event.result
-      declared_is olds news (c.in_ok-paired.ensures.animations ∙ ap (λ (v : PairedLists). v.animations) pairs) (ap (λ (v : DocumentEvent). v.root_size) c.work.view_is) c.event_at-event.ensures.value
+  whole : element_update c.args.entry.now c.args.declared (option_copied c.args.parent) (value_of_samples (samples_in c.in_ok-old.old)) (value_of_samples (samples_in c.in_ok-new.new)) c.in_ok-paired.paired.animations.items c.work.inside.root_size c.event_at-event.result
+      ≡ update_with w c.args.element c.args.entry.now c.args.declared (option_copied c.args.parent)
+  whole = update_is w c.args.element c.args.entry.now (option_copied c.args.parent) c.args.declared _ _ c.in_ok-paired.paired.animations.items c.work.inside.root_size c.event_at-event.result
+      olds news (c.in_ok-paired.ensures.animations ∙ ap (λ (v : PairedLists). v.animations) pairs) (ap (λ (v : DocumentEvent). v.root_size) c.work.view_is) c.event_at-event.ensures.value
 
 pub returns-clause-entry : goal.returns-clause-entry
 returns-clause-entry c =
-    subst (λ g. IfOk c.update_entry.result (λ u. u.entry ≡ entry_after (update_at c.args.work.now c.args.element c.args.entry.now (option_copied c.args.parent)) g))
+    subst (λ g. IfOk c.update_entry.result (λ u. u.entry ≡ entry_after (update_with c.args.work.now c.args.element c.args.entry.now c.args.declared (option_copied c.args.parent)) g))
     (c.in_ok-paired.ensures.gone ∙ ap (λ (v : PairedLists). v.gone) (pairs c))
     (subst (λ (x : ElementUpdate). IfOk c.update_entry.result (λ u. u.entry ≡ entry_after x c.in_ok-paired.paired.gone.items)) (whole c) c.update_entry.ensures.entry)
 
