@@ -7,7 +7,8 @@ use Rattle.doc_tree.specs.Element.{Document, Element, is_in}
 use Rattle.doc_tree.specs.Shape.{IsTree}
 use Rattle.element_step.proofs.Working.{empty_of}
 use Rattle.element_step.specs.Quiet.{handed_at_rest, has_no_effects, is_at_rest}
-use Rattle.element_step.specs.Works.{DocumentEvent, document_event}
+use Rattle.element_step.specs.Updates.{entry_after}
+use Rattle.element_step.specs.Works.{DocumentEvent, document_event, element_declarations, update_at}
 use Rattle.fix_num.specs.declared.units.Fix.{Fix}
 use Rattle.fix_num.specs.declared.units.Micros.{Micros}
 use Rattle.sheet_types.specs.Sheets.{SheetRules}
@@ -70,13 +71,14 @@ same_whole was now same settled =
 abbrev pub AreResting : List (ℕ × EntryParts) → List Element → Type 0
 AreResting entries chain = All (λ a. is_at_rest (entry_for entries a.number) ≡ true) chain
 
--- the event leaves its entry, and what it hands down is what its entry tells
+-- the event leaves its entry, and what it hands down is what its entry tells; each element declares what it did at the event before
 pub record LeavesAtRest (w : DocumentEvent) (entries : List (ℕ × EntryParts)) : Type 0 where
   pub entry : (a : Element) (above : List Element) → IsChain w.document (a ∷ above) → AreResting entries (a ∷ above)
       → entry_after_event w entries a.number ≡ entry_for entries a.number
   pub handed : (a : Element) (above : List Element) → IsChain w.document (a ∷ above) → AreResting entries (a ∷ above)
       → option_map inherited_above (styles_along w entries (a ∷ above))
       ≡ Some (handed_at_rest (entry_for entries a.number) (option_map inherited_above (styles_along w entries above)))
+  pub declared : (n : ℕ) → is_in n w.document.elements ≡ true → (entry_for entries n).declared ≡ element_declarations w n
 
 module _ (trees : TreeLaws) (laws : StillLaws) (f : FrameParts) (tick : ℤ) (time : Micros) (generation : ℕ) (root : Option Fix) (tree : IsTree f.document) (order : AreInTreeOrder f.document f.entries) where
   abbrev w : DocumentEvent
@@ -103,6 +105,10 @@ module _ (trees : TreeLaws) (laws : StillLaws) (f : FrameParts) (tick : ℤ) (ti
       (left_settled laws w n (entry_for f.entries n) (styles_along w f.entries (ancestors_of f.document n)) time.0 tick rest.settled
       (still_at_rest (ticked_parts tick (entry_after_event w f.entries n)) rest))
 
+  declared_after : (n : ℕ) → (entry_after_event w f.entries n).declared ≡ element_declarations w n
+  unfolding update_at entry_after
+  declared_after n = refl
+
   abbrev Rests : ℕ → Type 0
   Rests n = is_at_rest (entry_for ticked n) ≡ true
 
@@ -113,6 +119,7 @@ module _ (trees : TreeLaws) (laws : StillLaws) (f : FrameParts) (tick : ℤ) (ti
         same_whole (entry_for ticked a.number) (entry_after_event next ticked a.number) (stays_first laws w time generation root f.entries ticked Rests left a above chain rest)
         (settled_first laws w time generation root f.entries ticked Rests left a above chain rest (ap (λ (x : EffectLists). x.animations) own.effects) ∙ sym own.settled);
     handed = handed_first laws w time generation root f.entries ticked Rests left;
+    declared = λ n within. ap (λ (e : EntryParts). e.declared) (ticked_at n within) ∙ declared_after n;
   }
 
 -- ---- a quiet event

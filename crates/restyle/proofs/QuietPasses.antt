@@ -10,8 +10,8 @@ use Rattle.doc_tree.specs.Shape.{IsTree}
 use Rattle.change_styles.specs.Inheritance.{handed_down}
 use Rattle.computed_style.specs.declared.inherited.InheritedValues.{InheritedValues}
 use Rattle.element_step.specs.Updates.{now_parent}
-use Rattle.element_step.specs.Quiet.{down_of_one, handed_at_rest, is_at_rest, moving_step, quiet_down, quiet_meaning, quiet_outcome}
-use Rattle.element_step.specs.Works.{DocumentEvent, entry_at, from_parent, handed_by, outcome_in, top_down}
+use Rattle.element_step.specs.Quiet.{declared_in, down_of_one, handed_at_rest, is_at_rest, moving_step, quiet_down, quiet_meaning, quiet_outcome}
+use Rattle.element_step.specs.Works.{DocumentEvent, element_declarations, entry_at, from_parent, handed_by, outcome_with, top_down, update_at}
 use Rattle.element_step.specs.declared.quiet.QuietDown.{QuietDown}
 use Rattle.pass_core.specs.Passes.{IsPassOutcome, IsResult, are_distinct, at_top, below, value_for}
 use Rattle.pass_core.specs.Work.{down_of, entry_after}
@@ -99,27 +99,32 @@ module _ (w : DocumentEvent) (tree : IsTree w.document) (laws : TreeLaws) (entri
             entry_is = entry_plainly w e.number own down.parent ∙ ap (entry_at w e.number own) handed.plain_is;
           }
 
+      declared_is : (b : Bool) → quiet ≡ b → declared_in b w e.number own ≡ element_declarations w e.number
+      declared_is true on = (leaves on).declared e.number (there d tree laws before after e is)
+      declared_is false on = refl
+
       moved_is : from_parent w e.number (unwrap_or down.parent top_down) ≡ down.parent
-          → moving_step (outcome_in w e.number own (unwrap_or down.parent top_down)) ≡ Updated (entry_at w e.number own down.parent) (quiet_down (Some (handed_by w e.number own down.parent)) false)
-      unfolding outcome_in
+          → moving_step (outcome_with w e.number own (declared_in quiet w e.number own) (unwrap_or down.parent top_down)) ≡ Updated (entry_at w e.number own down.parent) (quiet_down (Some (handed_by w e.number own down.parent)) false)
+      unfolding outcome_with update_at
       moved_is from =
           let over = unwrap_or down.parent top_down in
-          ap (λ b. moving_step (if b then Updated (entry_at w e.number own (from_parent w e.number over)) (handed_by w e.number own (from_parent w e.number over)) else Kept over))
+          ap (λ d. moving_step (outcome_with w e.number own d over)) (declared_is quiet refl)
+          ∙ ap (λ b. moving_step (if b then Updated (entry_at w e.number own (from_parent w e.number over)) (handed_by w e.number own (from_parent w e.number over)) else Kept over))
           (there d tree laws before after e is)
           ∙ ap (λ p. Updated (entry_at w e.number own p) (quiet_down (Some (handed_by w e.number own p)) false)) from
 
       outcome_by : (b : Bool) → rests (e ∷ above) ≡ b → from_parent w e.number (unwrap_or down.parent top_down) ≡ down.parent
-          → IsOutcomeOf e (if b then Kept (quiet_down (Some (handed_at_rest own down.parent)) true) else moving_step (outcome_in w e.number own (unwrap_or down.parent top_down)))
+          → IsOutcomeOf e (if b then Kept (quiet_down (Some (handed_at_rest own down.parent)) true) else moving_step (outcome_with w e.number own (declared_in quiet w e.number own) (unwrap_or down.parent top_down)))
       outcome_by true rest from = kept_at_rest rest
       outcome_by false other from = subst (IsOutcomeOf e) (sym (moved_is from)) (moved_otherwise other)
 
       outcome_is : (x : EntryParts) → value_for entries e.number ≡ Some x → from_parent w e.number (unwrap_or down.parent top_down) ≡ down.parent
-          → IsOutcomeOf e (quiet_outcome w e.number x down)
+          → IsOutcomeOf e (quiet_outcome quiet w e.number x down)
       unfolding quiet_outcome
       outcome_is x value from =
           let own_is : own ≡ x = ap (λ o. unwrap_or o fresh_entry) value in
-          subst (λ v. IsOutcomeOf e (quiet_outcome w e.number v down)) own_is
-          (subst (λ b. IsOutcomeOf e (if b && is_at_rest own then Kept (quiet_down (Some (handed_at_rest own down.parent)) true) else moving_step (outcome_in w e.number own (unwrap_or down.parent top_down))))
+          subst (λ v. IsOutcomeOf e (quiet_outcome quiet w e.number v down)) own_is
+          (subst (λ b. IsOutcomeOf e (if b && is_at_rest own then Kept (quiet_down (Some (handed_at_rest own down.parent)) true) else moving_step (outcome_with w e.number own (declared_in quiet w e.number own) (unwrap_or down.parent top_down))))
           (sym handed.rest) (outcome_by (rests (e ∷ above)) refl from))
 
   -- ---- each place
@@ -133,13 +138,13 @@ module _ (w : DocumentEvent) (tree : IsTree w.document) (laws : TreeLaws) (entri
   from_above before after e is down o parent there_is =
       ap (option_map (λ _. unwrap_or down.parent top_down)) (parent_found d tree laws before after e is ∙ parent) ∙ sym there_is
 
-  top_is : (p : Place) (x : EntryParts) → p.parent ≡ None → value_for entries p.element ≡ Some x → IsOutcomeAt p (quiet_outcome w p.element x (quiet_down None quiet))
+  top_is : (p : Place) (x : EntryParts) → p.parent ≡ None → value_for entries p.element ≡ Some x → IsOutcomeAt p (quiet_outcome quiet w p.element x (quiet_down None quiet))
   top_is p x none value before after e is place =
       let value_e = ap (λ (q : Place). value_for entries q.element) (sym place) ∙ value in
-      subst (λ (q : Place). IsOutcomeOf e (quiet_outcome w q.element x (quiet_down None quiet))) (sym place)
+      subst (λ (q : Place). IsOutcomeOf e (quiet_outcome quiet w q.element x (quiet_down None quiet))) (sym place)
       (at e.parent refl (sym (ap (λ (q : Place). q.parent) place) ∙ none) value_e)
     where
-      at : (o : Option ℕ) → e.parent ≡ o → (element_place d e).parent ≡ None → value_for entries e.number ≡ Some x → IsOutcomeOf e (quiet_outcome w e.number x (quiet_down None quiet))
+      at : (o : Option ℕ) → e.parent ≡ o → (element_place d e).parent ≡ None → value_for entries e.number ≡ Some x → IsOutcomeOf e (quiet_outcome quiet w e.number x (quiet_down None quiet))
       at None root none value_e =
           let alone : ancestors_of d e.number ≡ [] = ap (λ o. option_map_or (inclusive_ancestors d.elements) o []) (parent_found d tree laws before after e is ∙ root) in
           outcome_is before after e is (quiet_down None quiet) (subst (λ c. IsHandedBy c (quiet_down None quiet)) (sym alone) (record { rest = refl; plain_is = refl })) x value_e
@@ -156,13 +161,13 @@ module _ (w : DocumentEvent) (tree : IsTree w.document) (laws : TreeLaws) (entri
       at (Some x) is = refl
 
   below_place : (p q : Place) (i : ℕ) (x : EntryParts) (s : Step EntryParts QuietDown) → p.parent ≡ Some i → slice_get (places_of d) i ≡ Some q → IsOutcomeAt q s
-      → value_for entries p.element ≡ Some x → IsOutcomeAt p (quiet_outcome w p.element x (down_of s))
+      → value_for entries p.element ≡ Some x → IsOutcomeAt p (quiet_outcome quiet w p.element x (down_of s))
   below_place p q i x s parent_at place_at is_outcome value before after e is place =
       let value_e = ap (λ (r : Place). value_for entries r.element) (sym place) ∙ value in
-      subst (λ (r : Place). IsOutcomeOf e (quiet_outcome w r.element x (down_of s))) (sym place)
+      subst (λ (r : Place). IsOutcomeOf e (quiet_outcome quiet w r.element x (down_of s))) (sym place)
       (at e.parent refl (sym (ap (λ (r : Place). r.parent) place) ∙ parent_at) value_e)
     where
-      at : (o : Option ℕ) → e.parent ≡ o → (element_place d e).parent ≡ Some i → value_for entries e.number ≡ Some x → IsOutcomeOf e (quiet_outcome w e.number x (down_of s))
+      at : (o : Option ℕ) → e.parent ≡ o → (element_place d e).parent ≡ Some i → value_for entries e.number ≡ Some x → IsOutcomeOf e (quiet_outcome quiet w e.number x (down_of s))
       at None root some value_e = absurd (let e : None ≡ Some i = sym (ap (option_and_then (λ p. position_of p d)) root) ∙ some in cc)
       at (Some n) parent some value_e =
           let a = parent_before d tree laws before after e n is parent in
