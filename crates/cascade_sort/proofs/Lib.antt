@@ -9,3 +9,4 @@ pub mod Told
 pub mod KeptWinners
 pub mod WinnerLaws
 pub mod Unmatched
+pub mod Siblings

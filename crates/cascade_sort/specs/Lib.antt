@@ -3,3 +3,4 @@ pub mod Precedences
 pub mod Applying
 pub mod Winning
 pub mod Finding
+pub mod Alike

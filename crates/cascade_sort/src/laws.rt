@@ -1,7 +1,8 @@
 //! What holds of winners by the definitions alone.
-ghost use Rattle.std.specs.Prelude.{◌≡◌, ◌⊎◌, ◌∷◌, ◌++◌, ℕ, All, Bool, Contains, IsPermutation, IsTrue, List, None, Option, Some, set};
+ghost use Rattle.std.specs.Prelude.{◌≡◌, ◌↔◌, ◌⊎◌, ◌∷◌, ◌++◌, ℕ, All, Bool, Contains, IsPermutation, IsTrue, List, None, Option, Some, set};
 ghost use Rattle.computed_style.specs.Winners.{Declarations};
-ghost use Rattle.doc_tree.specs.Element.{Element, inclusive_ancestors};
+ghost use Rattle.doc_tree.specs.Element.{Document, Element, element_of, inclusive_ancestors};
+ghost use Rattle.doc_tree.specs.Shape.{IsTree};
 ghost use Rattle.selectors_mini.specs.Compounds.{CompoundSelector};
 ghost use Rattle.selectors_mini.specs.Matching.{Matches};
 ghost use Rattle.sheet_types.specs.Sheets.{SheetRules, sheet_rules};
@@ -9,6 +10,7 @@ ghost use Rattle.sheet_types.specs.declared.rule.KeyframesRule.{KeyframesRule};
 ghost use Rattle.sheet_types.specs.declared.rule.Rule.{Rule};
 ghost use Rattle.shorthand_text.specs.declared.known_name.KnownName.{KnownName};
 ghost use Rattle.cascade_sort.specs.declared.precedence.Precedence.{Precedence};
+ghost use Rattle.cascade_sort.specs.Alike.{AreAlike, AreSiblingsAlike, are_siblings_alike};
 ghost use Rattle.cascade_sort.specs.Applying.{Applied, IsRuleSpecificity, applied_to, matched_specificity, style_declarations, style_text};
 ghost use Rattle.cascade_sort.specs.Finding.{all_found, collected, declaration_by, no_offers, with_offers};
 ghost use Rattle.cascade_sort.specs.Lexicographic.{is_at_most};
@@ -70,4 +72,20 @@ pub fn unmatched_rules_change_nothing()
         → All (λ s. Matches s (inclusive_ancestors es n) → ⊥) r.selectors
         → declared_of (set sheets k (Some (sheet_rules (before ++ r ∷ after) keyframes))) es n
         ≡ declared_of (set sheets k (Some (sheet_rules (before ++ after) keyframes))) es n }
+{}
+
+/// Siblings alike declare alike.
+pub fn siblings_alike_declare_alike()
+    ensures elements { (sheets : List (Option SheetRules)) (d : Document) (n m : ℕ) (e f : Element)
+        → IsTree d → element_of n d.elements ≡ Some e → element_of m d.elements ≡ Some f → AreAlike e f
+        → declared_of sheets d.elements n ≡ declared_of sheets d.elements m }
+    ensures tested { (sheets : List (Option SheetRules)) (d : Document) (n m : ℕ)
+        → IsTree d → IsTrue (are_siblings_alike n m d.elements) → declared_of sheets d.elements n ≡ declared_of sheets d.elements m }
+{
+    doc_tree::laws::ancestors_go_by_parents();
+}
+
+/// The test of siblings is true exactly where they are alike.
+pub fn the_test_of_siblings_is_exact()
+    ensures { (n m : ℕ) (es : List Element) → IsTrue (are_siblings_alike n m es) ↔ AreSiblingsAlike n m es }
 {}

@@ -4,6 +4,7 @@
 //! `declared(alloc, &sheets, &tree, n)?` are the winning declarations of element `n`.
 #![tactic(auto)]
 
+mod alike;
 mod finding;
 mod laws;
 mod precedence;
@@ -11,9 +12,10 @@ mod slot;
 mod strongest;
 mod winners;
 
+pub use alike::are_alike;
 pub use laws::{
     candidates_in_any_order, declarations_in_any_order, precedences_are_in_order,
-    precedences_differ, the_greatest_specificity_counts, unmatched_rules_change_nothing,
-    winners_are_exact,
+    precedences_differ, siblings_alike_declare_alike, the_greatest_specificity_counts,
+    the_test_of_siblings_is_exact, unmatched_rules_change_nothing, winners_are_exact,
 };
 pub use winners::{declared, declared_like};

@@ -16,7 +16,7 @@ use Rattle.style_data.specs.Entries.{EntryParts}
 use Rattle.style_data.specs.declared.animation.AnimationState.{AnimationState}
 use Rattle.timing_types.specs.TimingLists.{AnimationValues, initial_animations}
 use Rattle.transition_update.specs.declared.event.StyleChangeEvent.{StyleChangeEvent}
-use Rattle.element_step.specs.Quiet.{declared_in, handed_at_rest, is_at_rest, moving_step, quiet_down, quiet_outcome}
+use Rattle.element_step.specs.Quiet.{declared_in, handed_at_rest, is_at_rest, moving_step, outcome_where, quiet_down}
 use Rattle.element_step.specs.Rendering.{is_rendered}
 use Rattle.element_step.specs.Updates.{element_update}
 use Rattle.element_step.specs.Works.{DocumentEvent, animated_values_in, animation_lists_after, animations_before, animations_updated, element_declarations, entry_with, event_at, from_parent, handed_with, outcome_in, outcome_with, paired_with, top_down, update_at, update_with}
@@ -73,15 +73,15 @@ outcome_is w n entry down = refl
 
 -- ---- the outcome in a quiet event
 
-pub at_rest_is : (quiet : Bool) (w : DocumentEvent) (n : ℕ) (entry : EntryParts) (down : QuietDown) → (down.rests && is_at_rest entry) ≡ true
-    → Kept (quiet_down (Some (handed_at_rest entry down.parent)) true) ≡ quiet_outcome quiet w n entry down
-unfolding quiet_outcome
-at_rest_is quiet w n entry down is = rw is refl
+pub at_rest_is : (untouched : Bool) (w : DocumentEvent) (n : ℕ) (entry : EntryParts) (down : QuietDown) → (untouched && down.rests && is_at_rest entry) ≡ true
+    → Kept (quiet_down (Some (handed_at_rest entry down.parent)) true true) ≡ outcome_where untouched w n entry down
+unfolding outcome_where
+at_rest_is untouched w n entry down is = rw is refl
 
-pub in_motion_is : (quiet : Bool) (w : DocumentEvent) (n : ℕ) (entry : EntryParts) (down : QuietDown) → (down.rests && is_at_rest entry) ≡ false
-    → moving_step (outcome_with w n entry (declared_in quiet w n entry) (unwrap_or down.parent top_down)) ≡ quiet_outcome quiet w n entry down
-unfolding quiet_outcome
-in_motion_is quiet w n entry down is = rw is refl
+pub in_motion_is : (untouched : Bool) (w : DocumentEvent) (n : ℕ) (entry : EntryParts) (down : QuietDown) → (untouched && down.rests && is_at_rest entry) ≡ false
+    → moving_step untouched (outcome_with w n entry (declared_in untouched w n entry) (unwrap_or down.parent top_down)) ≡ outcome_where untouched w n entry down
+unfolding outcome_where
+in_motion_is untouched w n entry down is = rw is refl
 
 -- nothing is left of an empty list
 pub empty_of : {X : Type 0} (xs : List X) → (length xs == 0) ≡ true → xs ≡ []

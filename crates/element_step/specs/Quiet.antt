@@ -1,6 +1,7 @@
--- Elements at rest: where nothing has changed since the event before but the time, the update of such an element under ancestors at rest leaves its
--- entry as it is (CSS Transitions 1, section 3 "Starting of transitions").
-use Rattle.std.specs.Prelude.{ℕ, ◌==◌, Bool, true, false, ◌&&◌, length, Option, None, Some, unwrap_or, if◌then◌else◌}
+-- Elements at rest: where an element and its ancestors are as they were at the event before, and so are the sheets, the update of such an element under
+-- ancestors at rest leaves its entry as it is (CSS Transitions 1, section 3 "Starting of transitions").
+use Rattle.std.specs.Prelude.{ℕ, ◌==◌, nat_eq, Bool, true, false, ◌&&◌, not, List, length, Option, None, Some, unwrap_or, if◌then◌else◌}
+use Rattle.std.specs.List.{list_any}
 use Rattle.change_styles.specs.Inheritance.{handed_down}
 use Rattle.computed_style.specs.Winners.{Declarations}
 use Rattle.computed_style.specs.declared.inherited.Down.{Down}
@@ -29,25 +30,33 @@ down_of_one rendered now = record { before = (if rendered then Some now else Non
 abbrev pub handed_at_rest : EntryParts → Option Down → Down
 handed_at_rest entry parent = down_of_one entry.rendered (handed_down (now_parent parent) entry.now)
 
--- what an element hands down, and whether it and its ancestors are at rest
-abbrev pub quiet_down : Option Down → Bool → QuietDown
-quiet_down parent rests = record { parent = parent; rests = rests }
+-- what an element hands down, whether it and its ancestors are at rest, and whether none of them was touched
+abbrev pub quiet_down : Option Down → Bool → Bool → QuietDown
+quiet_down parent rests untouched = record { parent = parent; rests = rests; untouched = untouched }
+
+-- neither element n nor an ancestor was touched, under a parent that hands this down
+abbrev pub is_untouched_below : List ℕ → ℕ → QuietDown → Bool
+is_untouched_below touched n down = down.untouched && not (list_any (nat_eq n) touched)
 
 -- the same outcome, of an element that isn't at rest, or stands under one that isn't
-abbrev pub moving_step : Step EntryParts Down → Step EntryParts QuietDown
-moving_step (Updated entry down) = Updated entry (quiet_down (Some down) false)
-moving_step (Kept down) = Kept (quiet_down (Some down) false)
+abbrev pub moving_step : Bool → Step EntryParts Down → Step EntryParts QuietDown
+moving_step untouched (Updated entry down) = Updated entry (quiet_down (Some down) false untouched)
+moving_step untouched (Kept down) = Kept (quiet_down (Some down) false untouched)
 
--- what an element declares: in a quiet event what it did at the event before
+-- what an element declares: where it is untouched what it did at the event before
 abbrev pub declared_in : Bool → DocumentEvent → ℕ → EntryParts → Declarations
-declared_in quiet w n entry = (if quiet then entry.declared else element_declarations w n)
+declared_in untouched w n entry = (if untouched then entry.declared else element_declarations w n)
 
--- the outcome of an element's update: where it and its ancestors are at rest it is kept
-unfoldable pub quiet_outcome : Bool → DocumentEvent → ℕ → EntryParts → QuietDown → Step EntryParts QuietDown
-quiet_outcome quiet w n entry down =
-    (if down.rests && is_at_rest entry then Kept (quiet_down (Some (handed_at_rest entry down.parent)) true)
-    else moving_step (outcome_with w n entry (declared_in quiet w n entry) (unwrap_or down.parent top_down)))
+-- the outcome of an element's update: where it is untouched, and it and its ancestors are at rest, it is kept
+unfoldable pub outcome_where : Bool → DocumentEvent → ℕ → EntryParts → QuietDown → Step EntryParts QuietDown
+outcome_where untouched w n entry down =
+    (if untouched && down.rests && is_at_rest entry then Kept (quiet_down (Some (handed_at_rest entry down.parent)) true true)
+    else moving_step untouched (outcome_with w n entry (declared_in untouched w n entry) (unwrap_or down.parent top_down)))
 
--- an element whose parent isn't in the plan has none that moves, where the event is quiet
-abbrev pub quiet_meaning : Bool → DocumentEvent → Meaning EntryParts QuietDown
-quiet_meaning quiet w = record { outcome = quiet_outcome quiet w; top = quiet_down None quiet }
+-- the same where these elements were touched
+abbrev pub quiet_outcome : List ℕ → DocumentEvent → ℕ → EntryParts → QuietDown → Step EntryParts QuietDown
+quiet_outcome touched w n entry down = outcome_where (is_untouched_below touched n down) w n entry down
+
+-- an element whose parent isn't in the plan has none that moves or was touched, where the event is quiet
+abbrev pub quiet_meaning : Bool → List ℕ → DocumentEvent → Meaning EntryParts QuietDown
+quiet_meaning quiet touched w = record { outcome = quiet_outcome touched w; top = quiet_down None quiet quiet }

@@ -5,6 +5,7 @@
 //! it hands down, where `work` is the event of a document; `update_entry` is the same over declarations and animations.
 #![tactic(auto)]
 
+mod alike;
 mod downs;
 mod laws;
 mod quiet;
@@ -14,7 +15,7 @@ mod settling;
 mod update;
 mod work;
 
-pub use laws::transitions_want_rendering;
+pub use laws::{places_show_in_effects_alone, transitions_want_rendering};
 pub use quiet::{QuietDown, QuietWork};
 pub use rendering::is_rendered;
 pub use update::{ElementUpdated, update_entry};

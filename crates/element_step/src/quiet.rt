@@ -1,22 +1,31 @@
 //! The work of a style change event that passes over elements at rest.
 
-ghost use Rattle.std.specs.Prelude.{◌≡◌, ◌&&◌, IfOk, None, Some, option_copied, unwrap_or, if◌then◌else◌};
-ghost use Rattle.element_step.specs.Quiet.{declared_in, handed_at_rest, has_no_effects, is_at_rest, moving_step, quiet_outcome};
+ghost use Rattle.std.specs.Prelude.{◌≡◌, ◌&&◌, not, nat_eq, false, IfOk, IfSome, None, Some, option_copied, unwrap_or, if◌then◌else◌};
+ghost use Rattle.std.specs.Bool.{OnTrue};
+ghost use Rattle.std.specs.List.{list_any};
+ghost use Rattle.element_step.specs.Alike.{AreOfOneKind, GivesTheSame};
+ghost use Rattle.element_step.specs.Quiet.{declared_in, handed_at_rest, has_no_effects, is_at_rest, is_untouched_below, moving_step, quiet_down, quiet_meaning, quiet_outcome};
+ghost use Rattle.pass_core.specs.Work.{IsSibling};
 ghost use Rattle.element_step.specs.Works.{outcome_with, top_down};
 
+use crate::alike::tell_the_same;
 use crate::downs::now_parent;
 use crate::work::{ElementWork, top, update_element, update_unedited};
+use cascade_sort::{are_alike, siblings_alike_declare_alike};
 use change_styles::handed_down;
-use pass_core::{Step, TreeWork};
+use indexmap::IndexSet;
+use pass_core::{Sibling, Step, TreeWork};
 use std::alloc::{AllocError, Global};
 use style_data::{Down, Entry, Inherited};
 
-/// A style change event of a document, as a work on its tree. Where it is quiet, which is to say that nothing has changed since the event before
-/// but the time, elements at rest under ancestors at rest are passed over.
+/// A style change event of a document, as a work on its tree. Where it is quiet, which is to say that the sheets are those of the event before, and
+/// so are all elements but those that were touched, the others are passed over where they are at rest under ancestors at rest.
 #[derive(Drop)]
 pub struct QuietWork {
     pub work: ElementWork,
     pub quiet: bool,
+    /// The elements that were added or edited since the event before.
+    pub touched: IndexSet<u32>,
 }
 
 /// What an element hands to those below it.
@@ -26,113 +35,175 @@ pub struct QuietDown {
     pub parent: Option<Down>,
     /// Whether it and its ancestors are at rest in a quiet event.
     pub rests: bool,
+    /// Whether neither it nor an ancestor was touched in a quiet event.
+    pub untouched: bool,
 }
 
 impl TreeWork for QuietWork {
+    ghost use Rattle.std.specs.Prelude.{IfSome};
     ghost use Rattle.element_step.specs.Quiet.{quiet_meaning};
+    ghost use Rattle.pass_core.specs.Work.{IsSibling};
 
     type Entry = Entry;
 
     type Down = QuietDown;
 
-    ghost meaning = { λ w. quiet_meaning w.quiet w.work };
+    ghost meaning = { λ w. quiet_meaning w.quiet w.touched.keys w.work };
 
-    fn update(
+    fn update<'a>(
         &self,
         alloc: Global,
         element: u32,
-        entry: &Entry,
-        down: &QuietDown,
-    ) -> Result<Step<Entry, QuietDown>, AllocError> {
-        update_unless_at_rest(alloc, self, element, entry, down)
+        entry: &'a Entry,
+        down: &'a QuietDown,
+        sibling: Option<Sibling<'a, Entry, QuietDown>>,
+    ) -> Result<Step<Entry, QuietDown>, AllocError>
+        requires { IfSome sibling (IsSibling (quiet_meaning self.now.quiet self.now.touched.keys self.now.work) down.now) }
+        ensures { IfOk result (λ step. step ≡ (quiet_meaning self.now.quiet self.now.touched.keys self.now.work).outcome element entry.now down.entry.now) }
+    {
+        update_unless_at_rest(alloc, self, element, entry, down, sibling)
     }
 
     fn top(&self) -> QuietDown {
         QuietDown {
             parent: None,
             rests: self.quiet,
+            untouched: self.quiet,
         }
     }
 }
 
-/// The update of an element: where it is at rest, under ancestors at rest in a quiet event, it is kept as it is.
+/// The update of an element: where it is untouched and at rest, under ancestors at rest in a quiet event, it is kept as it is; what a
+/// sibling's update gave is taken over where it is the element's outcome too.
 fn update_unless_at_rest(
     alloc: Global,
     work: &QuietWork,
     element: u32,
     entry: &Entry,
     down: &QuietDown,
+    sibling: Option<Sibling<'_, Entry, QuietDown>>,
 ) -> Result<Step<Entry, QuietDown>, AllocError>
-    ensures { IfOk result (λ step. step ≡ quiet_outcome work.now.quiet work.now.work element entry.now down.entry.now) }
+    requires { IfSome sibling (IsSibling (quiet_meaning work.now.quiet work.now.touched.keys work.now.work) down.now) }
+    ensures { IfOk result (λ step. step ≡ quiet_outcome work.now.touched.keys work.now.work element entry.now down.entry.now) }
 {
-    if is_passed_over(down.rests, entry) {
+    let untouched = is_untouched(work, element, down.untouched);
+    if is_passed_over(untouched, down.rests, entry) {
         let parent = Some(handed_at_rest(entry, down.parent.as_ref()));
         return Ok(Step::Kept(QuietDown {
             parent,
             rests: true,
+            untouched: true,
         }));
     }
-    let step = update_below(alloc, work, element, entry, down.parent.as_ref())?;
-    Ok(moving_step(step))
+    if let Some(sibling) = sibling {
+        if gives_the_same(work, untouched, element, entry, down, &sibling) {
+            let after = sibling.after.copy(alloc)?;
+            return Ok(Step::Updated(after, *sibling.down));
+        }
+    }
+    let parent = down.parent.as_ref();
+    let step = update_below(alloc, &work.work, untouched, element, entry, parent)?;
+    Ok(moving_step(untouched, step))
+}
+
+/// Whether the sibling's update gave what the element's gives: nothing tells them apart but their places, and it left no effects, which
+/// alone note these.
+fn gives_the_same(
+    work: &QuietWork,
+    untouched: bool,
+    element: u32,
+    entry: &Entry,
+    down: &QuietDown,
+    sibling: &Sibling<'_, Entry, QuietDown>,
+) -> bool
+    requires { untouched ≡ is_untouched_below work.now.touched.keys element down.now }
+    ensures { OnTrue result (GivesTheSame work.now.touched.keys work.now.work element entry.now down.now sibling.now) }
+{
+    has_no_effects(sibling.after)
+        && is_untouched(work, sibling.element, down.untouched) == untouched
+        && tell_the_same(entry, sibling.before)
+        && are_of_one_kind(&work.work, element, sibling.element)
+}
+
+/// Whether the elements are siblings alike.
+fn are_of_one_kind(work: &ElementWork, n: u32, m: u32) -> bool
+    ensures { OnTrue result (AreOfOneKind work.now n m) }
+{
+    siblings_alike_declare_alike();
+    let tree = work.tree();
+    // What its contract says of the tree is wanted.
+    let _ = tree.len();
+    are_alike(tree, n, m)
+}
+
+/// Whether the element is untouched, under ancestors of which this says whether they are.
+fn is_untouched(work: &QuietWork, element: u32, above: bool) -> bool
+    ensures { result ≡ (above && not (list_any (nat_eq element) work.now.touched.keys)) }
+{
+    above && !work.touched.contains(&element)
 }
 
 /// The update of an element over what its parent hands down.
 fn update_below(
     alloc: Global,
-    work: &QuietWork,
+    work: &ElementWork,
+    untouched: bool,
     element: u32,
     entry: &Entry,
     parent: Option<&Down>,
 ) -> Result<Step<Entry, Down>, AllocError>
-    ensures { IfOk result (λ step. step ≡ outcome_with work.now.work element entry.now (declared_in work.now.quiet work.now.work element entry.now) (unwrap_or (option_copied parent.entry) top_down)) }
+    ensures { IfOk result (λ step. step ≡ outcome_with work.now element entry.now (declared_in untouched work.now element entry.now) (unwrap_or (option_copied parent.entry) top_down)) }
 {
     match parent {
-        None => update_in(alloc, work, element, entry, &top()),
-        Some(down) => update_in(alloc, work, element, entry, down),
+        None => update_in(alloc, work, untouched, element, entry, &top()),
+        Some(down) => update_in(alloc, work, untouched, element, entry, down),
     }
 }
 
-/// The same under what is handed down: in a quiet event the element declares what it did at the event before.
+/// The same under what is handed down: where it is untouched the element declares what it did at the event before.
 fn update_in(
     alloc: Global,
-    work: &QuietWork,
+    work: &ElementWork,
+    untouched: bool,
     element: u32,
     entry: &Entry,
     down: &Down,
 ) -> Result<Step<Entry, Down>, AllocError>
-    ensures { IfOk result (λ step. step ≡ outcome_with work.now.work element entry.now (declared_in work.now.quiet work.now.work element entry.now) down.entry.now) }
+    ensures { IfOk result (λ step. step ≡ outcome_with work.now element entry.now (declared_in untouched work.now element entry.now) down.entry.now) }
 {
-    if work.quiet {
-        update_unedited(alloc, &work.work, element, entry, down)
+    if untouched {
+        update_unedited(alloc, work, element, entry, down)
     } else {
-        update_element(alloc, &work.work, element, entry, down)
+        update_element(alloc, work, element, entry, down)
     }
 }
 
 /// The outcome, of an element that isn't at rest or stands under one that isn't.
-fn moving_step(step: Step<Entry, Down>) -> Step<Entry, QuietDown>
-    ensures { result ≡ moving_step step }
+fn moving_step(untouched: bool, step: Step<Entry, Down>) -> Step<Entry, QuietDown>
+    ensures { result ≡ moving_step untouched step }
 {
     match step {
-        Step::Updated(entry, down) => Step::Updated(
-            entry,
-            QuietDown {
-                parent: Some(down),
-                rests: false,
-            },
-        ),
-        Step::Kept(down) => Step::Kept(QuietDown {
-            parent: Some(down),
-            rests: false,
-        }),
+        Step::Updated(entry, down) => Step::Updated(entry, moving_down(untouched, down)),
+        Step::Kept(down) => Step::Kept(moving_down(untouched, down)),
     }
 }
 
-/// Whether the element is at rest, under ancestors of which this says whether they are.
-fn is_passed_over(rests: bool, entry: &Entry) -> bool
-    ensures { result ≡ (rests && is_at_rest entry.now) }
+/// What such an element hands down.
+fn moving_down(untouched: bool, down: Down) -> QuietDown
+    ensures { result ≡ quiet_down (Some down) false untouched }
 {
-    rests && is_at_rest(entry)
+    QuietDown {
+        parent: Some(down),
+        rests: false,
+        untouched,
+    }
+}
+
+/// Whether the element is passed over: it is untouched and at rest, under ancestors of which this says whether they rest.
+fn is_passed_over(untouched: bool, rests: bool, entry: &Entry) -> bool
+    ensures { result ≡ (untouched && rests && is_at_rest entry.now) }
+{
+    untouched && rests && is_at_rest(entry)
 }
 
 /// Whether the element is at rest: a frame has styled it, nothing of it will change by time alone, and it has no effects.

@@ -15,7 +15,7 @@ use animation_names::{Paired, match_names, sampled};
 use cascade_sort::declared_like;
 use doc_tree::Tree;
 use fix_num::{Fix, Micros};
-use pass_core::{Step, TreeWork};
+use pass_core::{Sibling, Step, TreeWork};
 use sheet_types::Sheets;
 use std::alloc::{AllocError, Global};
 use std::marker::Model;
@@ -104,7 +104,9 @@ impl ElementWork {
 }
 
 impl TreeWork for ElementWork {
+    ghost use Rattle.std.specs.Prelude.{IfSome};
     ghost use Rattle.element_step.specs.Works.{element_meaning};
+    ghost use Rattle.pass_core.specs.Work.{IsSibling};
 
     type Entry = Entry;
 
@@ -112,13 +114,17 @@ impl TreeWork for ElementWork {
 
     ghost meaning = { λ w. element_meaning w };
 
-    fn update(
+    fn update<'a>(
         &self,
         alloc: Global,
         element: u32,
-        entry: &Entry,
-        down: &Down,
-    ) -> Result<Step<Entry, Down>, AllocError> {
+        entry: &'a Entry,
+        down: &'a Down,
+        _sibling: Option<Sibling<'a, Entry, Down>>,
+    ) -> Result<Step<Entry, Down>, AllocError>
+        requires { IfSome _sibling (IsSibling (element_meaning self.now) down.now) }
+        ensures { IfOk result (λ step. step ≡ (element_meaning self.now).outcome element entry.now down.entry.now) }
+    {
         update_element(alloc, self, element, entry, down)
     }
 

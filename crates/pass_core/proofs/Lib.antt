@@ -6,3 +6,4 @@ pub mod Orders
 pub mod Swaps
 pub mod Indexes
 pub mod InOrder
+pub mod Lasts

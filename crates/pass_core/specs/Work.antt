@@ -1,5 +1,6 @@
 -- What a work on a tree does.
-use Rattle.std.specs.Prelude.{ℕ}
+use Rattle.std.specs.Prelude.{◌≡◌, ℕ}
+use Rattle.pass_core.specs.declared.sibling.Sibling.{Sibling}
 use Rattle.pass_core.specs.declared.step.Step.{Step}
 use Rattle.pass_core.specs.declared.step.Step.TheVariants.{Updated, Kept}
 
@@ -17,3 +18,7 @@ down_of (Kept d) = d
 abbrev pub entry_after : {E D : Type 0} → Step E D → E → E
 entry_after (Updated x d) before = x
 entry_after (Kept d) before = before
+
+-- the sibling's update gave this, over what is handed down
+abbrev pub IsSibling : {E D : Type 0} → Meaning E D → D → Sibling E D → Type 0
+IsSibling m down s = m.outcome s.element s.before.now down ≡ Updated s.after.now s.down.now

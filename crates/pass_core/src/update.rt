@@ -80,7 +80,7 @@ fn outcome_at<W: TreeWork>(
     let Some(down) = handed_to(work, places, done, &place) else {
         return Ok(None);
     };
-    Ok(Some(work.update(alloc, element, entry, &down)?))
+    Ok(Some(work.update(alloc, element, entry, &down, None)?))
 }
 
 fn planned_place(places: &[Place], element: u32) -> Option<Place>

@@ -1,8 +1,9 @@
 //! Work on a tree.
 
-ghost use Rattle.std.specs.Prelude.{◌≡◌, IfOk};
-ghost use Rattle.pass_core.specs.Work.{Meaning};
+ghost use Rattle.std.specs.Prelude.{◌≡◌, IfOk, IfSome};
+ghost use Rattle.pass_core.specs.Work.{IsSibling, Meaning};
 
+use crate::sibling::Sibling;
 use crate::step::Step;
 use std::alloc::{AllocError, Global};
 
@@ -17,14 +18,16 @@ pub trait TreeWork: Send + Sync + Drop {
     /// What the work does.
     ghost meaning: { Self → Meaning Self.Entry Self.Down };
 
-    /// The outcome of the element's update.
-    fn update(
+    /// The outcome of the element's update. It is the same whether a sibling's is handed in or not.
+    fn update<'a>(
         &self,
         alloc: Global,
         element: u32,
-        entry: &Self::Entry,
-        down: &Self::Down,
+        entry: &'a Self::Entry,
+        down: &'a Self::Down,
+        sibling: Option<Sibling<'a, Self::Entry, Self::Down>>,
     ) -> Result<Step<Self::Entry, Self::Down>, AllocError>
+        requires { IfSome sibling (IsSibling (meaning self.now) down.now) }
         ensures { IfOk result (λ step. step ≡ (meaning self.now).outcome element entry.now down.now) };
 
     /// What is handed down to an element whose parent isn't in the plan. Takes no memory.

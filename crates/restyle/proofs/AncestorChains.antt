@@ -61,6 +61,7 @@ module _ (d : Document) (tree : IsTree d) (laws : TreeLaws) where
   pub record Chain (n : ℕ) : Type 0 where
     pub item : Element
     pub number : item.number ≡ n
+    pub found : element_of n d.elements ≡ Some item
     pub is : inclusive_ancestors d.elements n ≡ item ∷ ancestors_of d n
     pub chain : IsChain d (item ∷ ancestors_of d n)
 
@@ -70,6 +71,7 @@ module _ (d : Document) (tree : IsTree d) (laws : TreeLaws) where
       record {
         item = s.item;
         number = s.number;
+        found = subst (λ m. element_of m d.elements ≡ Some s.item) s.number (found s.before s.after s.item s.is);
         is = subst (λ m. inclusive_ancestors d.elements m ≡ s.item ∷ ancestors_of d m) s.number (chain_begins s.before s.after s.item s.is);
         chain = subst (λ m. IsChain d (s.item ∷ ancestors_of d m)) s.number (chain_from (suc (length s.before)) s.before s.after s.item s.is (omega arith));
       }

@@ -25,6 +25,7 @@ pub mod StillEntries
 pub mod StylesAlong
 pub mod TickOrigins
 pub mod TransitionOrigins
+pub mod Untouched
 pub mod Walks
 pub mod WorldEdits
 pub mod WorldFrames

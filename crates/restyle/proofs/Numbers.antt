@@ -85,7 +85,7 @@ skip x entries (n ∷ ns) away =
     let parts = or_parts (eqb n x.0) (is_among x.0 ns) away in
     rw (other_way n x.0 parts.0) (ap (λ xs. (n, entry_for entries n) ∷ xs) (skip x entries ns parts.1))
 
-not_true : {b : Bool} → not b ≡ true → b ≡ false
+pub not_true : {b : Bool} → not b ≡ true → b ≡ false
 not_true {b = true} h = absurd (false≢true h)
 not_true {b = false} h = refl
 

@@ -1,10 +1,9 @@
 -- The outcome of a pass over the whole document is its style change event.
-use Rattle.std.proofs.Common.{◌≡◌, ℕ, refl, ap, sym, ◌∙◌, subst, eqb, inl, inr, Bool, true, false, not, ◌&&◌, ◌||◌, List, [], ◌∷◌, ◌++◌, length, map, Option, Some, None}
-use Rattle.std.specs.Prelude.{is_some, option_map, slice_get, unwrap_or, if◌then◌else◌}
+use Rattle.std.proofs.Common.{◌≡◌, ℕ, refl, ap, sym, ◌∙◌, subst, eqb, inl, inr, Bool, true, false, not, ◌&&◌, ◌||◌, List, [], ◌∷◌, ◌++◌, map, Option, Some, None}
+use Rattle.std.specs.Prelude.{is_some, option_map, unwrap_or, if◌then◌else◌}
 use Rattle.std.specs.List.{find, list_all, list_any}
-use Rattle.std.specs.Option.{option_and_then, option_map_or}
 use Rattle.std.proofs.lemmas.Bool.{cases_Bool, eq-eqb, eqb-true, or_parts, or_left, and_from}
-use Rattle.doc_tree.specs.Element.{Document, Element, inclusive_ancestors, is_in, numbers_of, position_of}
+use Rattle.doc_tree.specs.Element.{Document, Element, is_in, numbers_of}
 use Rattle.doc_tree.specs.Shape.{IsTree}
 use Rattle.element_step.specs.Works.{DocumentEvent}
 use Rattle.pass_core.specs.Passes.{IsPassOutcome, IsResult, are_distinct, have_entries, value_for}

@@ -1,4 +1,4 @@
--- What an event leaves of elements at rest, where nothing has changed since the event before.
+-- What an event leaves of elements at rest, where neither they nor their ancestors nor the sheets have changed since the event before.
 use Rattle.std.proofs.Common.{◌≡◌, ℕ, refl, ap, sym, ◌∙◌, subst, Bool, true, false, ◌&&◌, List, [], ◌∷◌, Option, Some, None}
 use Rattle.std.specs.Prelude.{ℤ, All, IsSome, option_map, if◌then◌else◌}
 use Rattle.std.proofs.lemmas.Bool.{and_parts}
@@ -8,7 +8,8 @@ use Rattle.change_styles.specs.Inheritance.{handed_down, inherited_from, with_ch
 use Rattle.computed_style.specs.Winners.{Declarations}
 use Rattle.computed_style.specs.declared.inherited.Down.{Down}
 use Rattle.computed_style.specs.declared.inherited.InheritedValues.{InheritedValues}
-use Rattle.doc_tree.specs.Element.{Element, is_in}
+use Rattle.cascade_sort.specs.Winning.{declared_of}
+use Rattle.doc_tree.specs.Element.{Document, Element, is_in}
 use Rattle.element_step.specs.Quiet.{down_of_one, handed_at_rest}
 use Rattle.element_step.specs.Rendering.{is_displayed, is_rendered}
 use Rattle.element_step.specs.Updates.{ElementUpdate, after_of, now_of, now_parent, rendered_after}
@@ -19,7 +20,7 @@ use Rattle.style_data.specs.Entries.{EffectLists, EntryParts}
 use Rattle.restyle.specs.Rest.{IsStill}
 use Rattle.restyle.specs.StyleChanges.{StylesAbove, after_above, ancestors_of, before_above, before_of, entry_after_event, entry_for, inherited_above, now_above, styles_along, styles_below}
 use Rattle.restyle.proofs.AncestorChains.{IsChain}
-use Rattle.restyle.proofs.QuietUpdates.{InheritsOne, StaysSame, StillLaws, one_style, quiet_event, same_after, same_before, same_entry, same_now, same_update, stays, stays_settled, still_style, still_update, still_values}
+use Rattle.restyle.proofs.QuietUpdates.{InheritsOne, StaysSame, StillLaws, event_after, one_style, same_after, same_before, same_entry, same_now, same_update, stays, stays_settled, still_style, still_update, still_values}
 use Rattle.restyle.proofs.StylesAlong.{after_inherited, before_inherited, handed, made, now_inherited}
 
 -- ---- what elements stand under
@@ -90,8 +91,12 @@ shown_after : (w : DocumentEvent) (n : ℕ) (entry : EntryParts) (parent : Optio
 unfolding update_at
 shown_after w n entry parent = refl
 
-module _ (laws : StillLaws) (w : DocumentEvent) (t : Micros) (generation : ℕ) (root : Option Fix) (n : ℕ) (opening e : EntryParts) (a b : Option StylesAbove)
-    (quiet : AreQuiet a b) (left : IsLeftStill w n opening a t.0 e) where
+-- the next event is of a document in which the element declares what it did
+module _ (laws : StillLaws) (w : DocumentEvent) (d : Document) (t : Micros) (generation : ℕ) (root : Option Fix) (n : ℕ) (opening e : EntryParts) (a b : Option StylesAbove)
+    (same : element_declarations (event_after w d t generation root) n ≡ element_declarations w n) (quiet : AreQuiet a b) (left : IsLeftStill w n opening a t.0 e) where
+  abbrev after : DocumentEvent
+  after = event_after w d t generation root
+
   abbrev parent : Option Down
   parent = option_map inherited_above b
 
@@ -99,7 +104,7 @@ module _ (laws : StillLaws) (w : DocumentEvent) (t : Micros) (generation : ℕ) 
   was = update_at w n opening (option_map inherited_above a)
 
   abbrev x : ElementUpdate
-  x = still_update w t generation root n e parent
+  x = still_update w d t generation root n e parent
 
   shown : is_rendered e.declared parent ≡ e.rendered
   shown = ap (λ d. is_rendered d parent) left.declared ∙ shown_alike (element_declarations w n) a b quiet ∙ sym left.rendered
@@ -109,15 +114,15 @@ module _ (laws : StillLaws) (w : DocumentEvent) (t : Micros) (generation : ℕ) 
 
   -- the three styles are those of now, as the event before left it
   now_is : now_of x ≡ now_of was
-  now_is = same_now laws e parent (still_values w t.0 e) _ root (event_at (quiet_event w t generation root) n) left.still.transitions shown one left.style ∙ left.now
+  now_is = same_now laws e parent (still_values w t.0 e) _ root (event_at after n) left.still.transitions shown one left.style ∙ left.now
 
   before_is : e.rendered ≡ true → before_of x ≡ now_of was
   before_is on =
-      same_before laws e parent (still_values w t.0 e) _ root (event_at (quiet_event w t generation root) n) left.still.transitions shown one left.style on ∙ left.now
+      same_before laws e parent (still_values w t.0 e) _ root (event_at after n) left.still.transitions shown one left.style on ∙ left.now
 
   after_is : e.rendered ≡ true → after_of x ≡ now_of was
   after_is on =
-      same_after laws e parent (still_values w t.0 e) _ root (event_at (quiet_event w t generation root) n) left.still.transitions shown one left.style on ∙ left.now
+      same_after laws e parent (still_values w t.0 e) _ root (event_at after n) left.still.transitions shown one left.style on ∙ left.now
 
   was_on : rendered_after was ≡ true → e.rendered ≡ true
   was_on on = left.rendered ∙ sym (shown_after w n opening (option_map inherited_above a)) ∙ on
@@ -148,19 +153,19 @@ module _ (laws : StillLaws) (w : DocumentEvent) (t : Micros) (generation : ℕ) 
     after = handed_after;
   }
 
-  pub quiet_below : IsQuiet (styles_below a was) (styles_below b (update_at (quiet_event w t generation root) n e parent))
+  pub quiet_below : IsQuiet (styles_below a was) (styles_below b (update_at after n e parent))
   quiet_below =
-      subst (λ y. IsQuiet (styles_below a was) (styles_below b y)) (sym (same_update laws w t generation root n e parent left.declared shown left.animations)) below_quiet
+      subst (λ y. IsQuiet (styles_below a was) (styles_below b y)) (sym (same_update laws w d t generation root n e parent (left.declared ∙ sym same) shown left.animations)) below_quiet
 
-  pub stays_under : StaysSame e (entry_at (quiet_event w t generation root) n e parent)
+  pub stays_under : StaysSame e (entry_at after n e parent)
   stays_under =
-      subst (StaysSame e) (sym (same_entry laws w t generation root n e parent left.declared shown left.animations))
-      (stays laws e parent (still_values w t.0 e) _ root (event_at (quiet_event w t generation root) n) left.still.transitions shown one left.style left.styled)
+      subst (StaysSame e) (sym (same_entry laws w d t generation root n e parent (left.declared ∙ sym same) shown left.animations))
+      (stays laws e parent (still_values w t.0 e) _ root (event_at after n) left.still.transitions shown one left.style left.styled)
 
-  pub settled_under : e.effects.animations ≡ [] → (entry_at (quiet_event w t generation root) n e parent).settled ≡ true
+  pub settled_under : e.effects.animations ≡ [] → (entry_at after n e parent).settled ≡ true
   settled_under none =
-      subst (λ (y : EntryParts). y.settled ≡ true) (sym (same_entry laws w t generation root n e parent left.declared shown left.animations))
-      (stays_settled laws e parent (still_values w t.0 e) _ root (event_at (quiet_event w t generation root) n) left.still.transitions shown one left.style none)
+      subst (λ (y : EntryParts). y.settled ≡ true) (sym (same_entry laws w d t generation root n e parent (left.declared ∙ sym same) shown left.animations))
+      (stays_settled laws e parent (still_values w t.0 e) _ root (event_at after n) left.still.transitions shown one left.style none)
 
   -- ---- what it hands down
 
@@ -187,7 +192,7 @@ module _ (laws : StillLaws) (w : DocumentEvent) (t : Micros) (generation : ℕ) 
   after_one =
       at e.rendered refl
       ∙ ap (λ s. inherited_from (with_child (now_above b) s))
-      (one_style laws e parent (still_values w t.0 e) _ root (event_at (quiet_event w t generation root) n) left.still.transitions shown one left.style ∙ now_one)
+      (one_style laws e parent (still_values w t.0 e) _ root (event_at after n) left.still.transitions shown one left.style ∙ now_one)
     where
       at : (r : Bool) → e.rendered ≡ r
           → inherited_from (with_child (if rendered_after x then after_above b else now_above b) (after_of x)) ≡ inherited_from (with_child (now_above b) (after_of x))
@@ -204,11 +209,19 @@ module _ (laws : StillLaws) (w : DocumentEvent) (t : Micros) (generation : ℕ) 
       ∙ ap (λ s. made (if e.rendered then Some handed_one else None) handed_one (inherited_from (with_child (now_above b) s)) (rendered_after x)) now_one
       ∙ ap (made (if e.rendered then Some handed_one else None) handed_one handed_one) shown ∙ ap (λ i. down_of_one e.rendered i) (sym one_handed)
 
-  pub handed_under : inherited_above (styles_below b (update_at (quiet_event w t generation root) n e parent)) ≡ handed_at_rest e parent
+  pub handed_under : inherited_above (styles_below b (update_at after n e parent)) ≡ handed_at_rest e parent
   handed_under =
-      subst (λ y. inherited_above (styles_below b y) ≡ handed_at_rest e parent) (sym (same_update laws w t generation root n e parent left.declared shown left.animations)) below_handed
+      subst (λ y. inherited_above (styles_below b y) ≡ handed_at_rest e parent) (sym (same_update laws w d t generation root n e parent (left.declared ∙ sym same) shown left.animations)) below_handed
 
 -- ---- an element and its ancestors
+
+-- the element stands in this document as it did at the event of w: it has the same ancestors, and it declares the same
+pub record StandsAlike (w : DocumentEvent) (d : Document) (n : ℕ) : Type 0 where
+  pub ancestors : ancestors_of d n ≡ ancestors_of w.document n
+  pub declared : declared_of w.sheets d.elements n ≡ element_declarations w n
+
+pub stands_alike : (w : DocumentEvent) (n : ℕ) → StandsAlike w w.document n
+stands_alike w n = record { ancestors = refl; declared = refl }
 
 still_as : (a b : EntryParts) → b.effects ≡ a.effects → IsStill a → IsStill b
 still_as a b same still = record {
@@ -216,55 +229,60 @@ still_as a b same still = record {
   animations = subst (λ (f : EffectLists). All (λ x. IsSome x.hold) f.animations) (sym same) still.animations;
 }
 
--- those that are at rest are left still
-module _ (laws : StillLaws) (w : DocumentEvent) (t : Micros) (generation : ℕ) (root : Option Fix) (opening entries : List (ℕ × EntryParts)) (IsAtRest : ℕ → Type 0)
-    (left : (n : ℕ) → is_in n w.document.elements ≡ true → IsAtRest n
+-- those that are at rest are left still, and stand in the document of the next event as they did
+module _ (laws : StillLaws) (w : DocumentEvent) (d : Document) (t : Micros) (generation : ℕ) (root : Option Fix) (opening entries : List (ℕ × EntryParts)) (IsAtRest : ℕ → Type 0)
+    (alike : (n : ℕ) → is_in n d.elements ≡ true → IsAtRest n → StandsAlike w d n)
+    (left : (n : ℕ) → is_in n d.elements ≡ true → IsAtRest n
     → IsLeftStill w n (entry_for opening n) (styles_along w opening (ancestors_of w.document n)) t.0 (entry_for entries n)) where
   abbrev next : DocumentEvent
-  next = quiet_event w t generation root
+  next = event_after w d t generation root
 
   abbrev AllAtRest : List Element → Type 0
   AllAtRest chain = All (λ a. IsAtRest a.number) chain
 
-  left_first : (a : Element) (above : List Element) → IsChain w.document (a ∷ above) → AllAtRest (a ∷ above)
+  alike_first : (a : Element) (above : List Element) → IsChain d (a ∷ above) → AllAtRest (a ∷ above) → StandsAlike w d a.number
+  alike_first a above chain rest = alike a.number chain.0 (All-head (λ (x : Element). IsAtRest x.number) a above rest)
+
+  left_first : (a : Element) (above : List Element) → IsChain d (a ∷ above) → AllAtRest (a ∷ above)
       → IsLeftStill w a.number (entry_for opening a.number) (styles_along w opening above) t.0 (entry_for entries a.number)
   left_first a above chain rest =
-      subst (λ c. IsLeftStill w a.number (entry_for opening a.number) (styles_along w opening c) t.0 (entry_for entries a.number)) chain.1
+      subst (λ c. IsLeftStill w a.number (entry_for opening a.number) (styles_along w opening c) t.0 (entry_for entries a.number))
+      (sym (alike_first a above chain rest).ancestors ∙ chain.1)
       (left a.number chain.0 (All-head (λ (x : Element). IsAtRest x.number) a above rest))
 
-  quiet_along : (chain : List Element) → IsChain w.document chain → AllAtRest chain → AreQuiet (styles_along w opening chain) (styles_along next entries chain)
+  quiet_along : (chain : List Element) → IsChain d chain → AllAtRest chain → AreQuiet (styles_along w opening chain) (styles_along next entries chain)
   quiet_along [] chain rest = tt
   quiet_along (a ∷ above) chain rest =
-      quiet_below laws w t generation root a.number (entry_for opening a.number) (entry_for entries a.number) (styles_along w opening above) (styles_along next entries above)
-      (quiet_along above chain.2 (All-tail (λ (x : Element). IsAtRest x.number) a above rest)) (left_first a above chain rest)
+      quiet_below laws w d t generation root a.number (entry_for opening a.number) (entry_for entries a.number) (styles_along w opening above) (styles_along next entries above)
+      (alike_first a above chain rest).declared (quiet_along above chain.2 (All-tail (λ (x : Element). IsAtRest x.number) a above rest)) (left_first a above chain rest)
 
   -- the entry of the first of a chain stays
-  pub stays_first : (a : Element) (above : List Element) → IsChain w.document (a ∷ above) → AllAtRest (a ∷ above)
+  pub stays_first : (a : Element) (above : List Element) → IsChain d (a ∷ above) → AllAtRest (a ∷ above)
       → StaysSame (entry_for entries a.number) (entry_after_event next entries a.number)
   stays_first a above chain rest =
       subst (λ c. StaysSame (entry_for entries a.number) (entry_at next a.number (entry_for entries a.number) (option_map inherited_above (styles_along next entries c))))
       (sym chain.1)
-      (stays_under laws w t generation root a.number (entry_for opening a.number) (entry_for entries a.number) (styles_along w opening above) (styles_along next entries above)
-      (quiet_along above chain.2 (All-tail (λ (x : Element). IsAtRest x.number) a above rest)) (left_first a above chain rest))
+      (stays_under laws w d t generation root a.number (entry_for opening a.number) (entry_for entries a.number) (styles_along w opening above) (styles_along next entries above)
+      (alike_first a above chain rest).declared (quiet_along above chain.2 (All-tail (λ (x : Element). IsAtRest x.number) a above rest)) (left_first a above chain rest))
 
   -- which is still again
-  pub still_first : (a : Element) (above : List Element) → IsChain w.document (a ∷ above) → AllAtRest (a ∷ above) → IsStill (entry_after_event next entries a.number)
+  pub still_first : (a : Element) (above : List Element) → IsChain d (a ∷ above) → AllAtRest (a ∷ above) → IsStill (entry_after_event next entries a.number)
   still_first a above chain rest =
       still_as (entry_for entries a.number) (entry_after_event next entries a.number) (stays_first a above chain rest).effects (left_first a above chain rest).still
 
   -- it is settled again, where it has no animation
-  pub settled_first : (a : Element) (above : List Element) → IsChain w.document (a ∷ above) → AllAtRest (a ∷ above) → (entry_for entries a.number).effects.animations ≡ []
+  pub settled_first : (a : Element) (above : List Element) → IsChain d (a ∷ above) → AllAtRest (a ∷ above) → (entry_for entries a.number).effects.animations ≡ []
       → (entry_after_event next entries a.number).settled ≡ true
   settled_first a above chain rest none =
       subst (λ c. (entry_at next a.number (entry_for entries a.number) (option_map inherited_above (styles_along next entries c))).settled ≡ true) (sym chain.1)
-      (settled_under laws w t generation root a.number (entry_for opening a.number) (entry_for entries a.number) (styles_along w opening above) (styles_along next entries above)
-      (quiet_along above chain.2 (All-tail (λ (x : Element). IsAtRest x.number) a above rest)) (left_first a above chain rest) none)
+      (settled_under laws w d t generation root a.number (entry_for opening a.number) (entry_for entries a.number) (styles_along w opening above) (styles_along next entries above)
+      (alike_first a above chain rest).declared (quiet_along above chain.2 (All-tail (λ (x : Element). IsAtRest x.number) a above rest)) (left_first a above chain rest) none)
 
   -- and what it hands down is what its entry tells
-  pub handed_first : (a : Element) (above : List Element) → IsChain w.document (a ∷ above) → AllAtRest (a ∷ above)
+  pub handed_first : (a : Element) (above : List Element) → IsChain d (a ∷ above) → AllAtRest (a ∷ above)
       → option_map inherited_above (styles_along next entries (a ∷ above))
       ≡ Some (handed_at_rest (entry_for entries a.number) (option_map inherited_above (styles_along next entries above)))
   handed_first a above chain rest =
       ap Some
-      (handed_under laws w t generation root a.number (entry_for opening a.number) (entry_for entries a.number) (styles_along w opening above) (styles_along next entries above)
-      (quiet_along above chain.2 (All-tail (λ (x : Element). IsAtRest x.number) a above rest)) (left_first a above chain rest))
+      (handed_under laws w d t generation root a.number (entry_for opening a.number) (entry_for entries a.number) (styles_along w opening above) (styles_along next entries above)
+      (alike_first a above chain rest).declared (quiet_along above chain.2 (All-tail (λ (x : Element). IsAtRest x.number) a above rest)) (left_first a above chain rest))

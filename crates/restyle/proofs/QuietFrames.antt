@@ -16,7 +16,7 @@ use Rattle.restyle.specs.StyleChanges.{FrameParts, ancestors_of, entry_after_eve
 use Rattle.restyle.proofs.AncestorChains.{IsChain, chain_of}
 use Rattle.restyle.proofs.Outcomes.{value_for-map, value_there}
 use Rattle.restyle.proofs.ProperPlans.{TreeLaws}
-use Rattle.restyle.proofs.QuietEvents.{IsLeftStill, still_first, stays_first}
+use Rattle.restyle.proofs.QuietEvents.{IsLeftStill, stands_alike, still_first, stays_first}
 use Rattle.restyle.proofs.QuietUpdates.{StaysSame, StillLaws, quiet_event}
 use Rattle.restyle.proofs.StillEntries.{left_after}
 
@@ -55,7 +55,7 @@ chain-none n (e ∷ es) earlier none =
     let parts = or_parts (eqb e.number n) (is_in n es) none in
     chain-none n es (e ∷ earlier) parts.1 ∙ rw parts.0 refl
 
-ancestors-none : (n : ℕ) (d : Document) → is_in n d.elements ≡ false → inclusive_ancestors d.elements n ≡ []
+pub ancestors-none : (n : ℕ) (d : Document) → is_in n d.elements ≡ false → inclusive_ancestors d.elements n ≡ []
 unfolding chain
 ancestors-none n d none = chain-none n d.elements [] none
 
@@ -83,14 +83,14 @@ module _ (trees : TreeLaws) (laws : StillLaws) (w : DocumentEvent) (t : Micros) 
       let c = chain_of w.document tree trees n within in
       subst (λ e. StaysSame (entry_for entries n) e) (sym (entry_there (entry_after_event next entries) w.document entries n order within))
       (subst (λ m. StaysSame (entry_for entries m) (entry_after_event next entries m)) c.number
-      (stays_first laws w t generation root opening entries IsAtRest left c.item (ancestors_of w.document n) c.chain (subst (λ (xs : List Element). All (λ a. IsAtRest a.number) xs) c.is rest)))
+      (stays_first laws w w.document t generation root opening entries IsAtRest (λ m _ _. stands_alike w m) left c.item (ancestors_of w.document n) c.chain (subst (λ (xs : List Element). All (λ a. IsAtRest a.number) xs) c.is rest)))
 
   rest_along : (chain : List Element) → IsChain w.document chain → All (λ a. IsAtRest a.number) chain → All (λ a. IsStill (entry_for after a.number)) chain
   rest_along [] chain rest = All-nil (λ (a : Element). IsStill (entry_for after a.number))
   rest_along (a ∷ above) chain rest =
       All-cons (λ (x : Element). IsStill (entry_for after x.number)) a above
       (subst (λ e. IsStill e) (sym (entry_there (entry_after_event next entries) w.document entries a.number order chain.0))
-      (still_first laws w t generation root opening entries IsAtRest left a above chain rest))
+      (still_first laws w w.document t generation root opening entries IsAtRest (λ m _ _. stands_alike w m) left a above chain rest))
       (rest_along above chain.2 (All-tail (λ (x : Element). IsAtRest x.number) a above rest))
 
   pub rest_after : (n : ℕ) → AllAtRest n → AreAtRest w.document after n

@@ -11,6 +11,7 @@ use Rattle.computed_style.specs.Styles.{ComputedStyle, value_of}
 use Rattle.computed_style.specs.Winners.{Declarations}
 use Rattle.computed_style.specs.declared.inherited.Down.{Down}
 use Rattle.computed_style.specs.declared.inherited.InheritedValues.{InheritedValues}
+use Rattle.doc_tree.specs.Element.{Document}
 use Rattle.element_step.specs.Rendering.{is_rendered}
 use Rattle.element_step.proofs.Rendered.{same_itself}
 use Rattle.element_step.specs.Settling.{has_ended, have_same_values}
@@ -148,18 +149,22 @@ module _ (laws : StillLaws) (e : EntryParts) (parent : Option Down) (values : An
 
 -- ---- of an element of the document
 
--- the next event, where nothing has changed but the time: its sheets before are those of the event
+-- the next event, of this document: its sheets before are those of the event, and so are its sheets of now
+abbrev pub event_after : DocumentEvent → Document → Micros → ℕ → Option Fix → DocumentEvent
+event_after w d t generation root = document_event t generation d w.sheets w.sheets root
+
+-- the same where nothing has changed but the time
 abbrev pub quiet_event : DocumentEvent → Micros → ℕ → Option Fix → DocumentEvent
-quiet_event w t generation root = document_event t generation w.document w.sheets w.sheets root
+quiet_event w t generation root = event_after w w.document t generation root
 
 -- what the entry's animations give at a time
 abbrev pub still_values : DocumentEvent → ℤ → EntryParts → AnimatedValues
 still_values w t e = value_of_samples (samples_of e.effects.animations w.sheets t)
 
 -- the element's update then, where its animations stay
-abbrev pub still_update : DocumentEvent → Micros → ℕ → Option Fix → ℕ → EntryParts → Option Down → ElementUpdate
-still_update w t generation root n e parent =
-    element_update e e.declared parent (still_values w t.0 e) (still_values w t.0 e) e.effects.animations root (event_at (quiet_event w t generation root) n)
+abbrev pub still_update : DocumentEvent → Document → Micros → ℕ → Option Fix → ℕ → EntryParts → Option Down → ElementUpdate
+still_update w d t generation root n e parent =
+    element_update e e.declared parent (still_values w t.0 e) (still_values w t.0 e) e.effects.animations root (event_at (event_after w d t generation root) n)
 
 abbrev pair : List AnimationState → List Gone → PairedLists
 pair animations gone = record { animations = animations; gone = gone }
@@ -168,11 +173,11 @@ kept : (b : Bool) (list : List AnimationState) → (if b then if b then list els
 kept true list = refl
 kept false list = refl
 
-module _ (laws : StillLaws) (w : DocumentEvent) (t : Micros) (generation : ℕ) (root : Option Fix) (n : ℕ) (e : EntryParts) (parent : Option Down)
-    (declared : e.declared ≡ element_declarations w n) (rendered : is_rendered e.declared parent ≡ e.rendered)
+module _ (laws : StillLaws) (w : DocumentEvent) (d : Document) (t : Micros) (generation : ℕ) (root : Option Fix) (n : ℕ) (e : EntryParts) (parent : Option Down)
+    (declared : e.declared ≡ element_declarations (event_after w d t generation root) n) (rendered : is_rendered e.declared parent ≡ e.rendered)
     (animations : AreAnimationsOf (animation_lists_after e.rendered e.declared) w.sheets e.effects.animations) where
   abbrev next : DocumentEvent
-  next = quiet_event w t generation root
+  next = event_after w d t generation root
 
   abbrev names : List AnimationState → AnimationValues → NamesUpdate
   names list lists = names_update list lists w.sheets t generation (event_at next n).position
@@ -191,13 +196,13 @@ module _ (laws : StillLaws) (w : DocumentEvent) (t : Micros) (generation : ℕ) 
       ∙ ap (λ list. pairs list (animation_lists_after e.rendered e.declared)) (kept e.rendered e.effects.animations)
       ∙ ap (λ list. pair list (gone_after (names e.effects.animations (animation_lists_after e.rendered e.declared)))) same.0 ∙ ap (pair e.effects.animations) same.1
 
-  pub same_update : update_at next n e parent ≡ still_update w t generation root n e parent
+  pub same_update : update_at next n e parent ≡ still_update w d t generation root n e parent
   unfolding update_at
   same_update =
       ap (λ d. element_update e d parent (still_values w t.0 e) (animated_values_in next w.sheets (paired_at next n e parent).animations) (paired_at next n e parent).animations root (event_at next n)) (sym declared)
       ∙ ap (λ (p : PairedLists). element_update e e.declared parent (still_values w t.0 e) (animated_values_in next w.sheets p.animations) p.animations root (event_at next n)) same_paired
 
-  pub same_entry : entry_at next n e parent ≡ entry_after (still_update w t generation root n e parent) []
+  pub same_entry : entry_at next n e parent ≡ entry_after (still_update w d t generation root n e parent) []
   same_entry =
       ap (λ x. entry_after x (paired_at next n e parent).gone) same_update
-      ∙ ap (λ (p : PairedLists). entry_after (still_update w t generation root n e parent) p.gone) same_paired
+      ∙ ap (λ (p : PairedLists). entry_after (still_update w d t generation root n e parent) p.gone) same_paired

@@ -1,15 +1,14 @@
 -- What is handed down stands for whole styles.
-use Rattle.std.proofs.Common.{◌≡◌, ℕ, refl, ap, ◌∙◌, Bool, true, false, List, [], ◌∷◌, Option, Some, None}
+use Rattle.std.proofs.Common.{◌≡◌, ℕ, refl, ap, ◌∙◌, Bool, true, false, Option, Some, None}
 use Rattle.std.specs.Prelude.{option_map, if◌then◌else◌}
 use Rattle.change_styles.specs.Inheritance.{Ancestors, handed_down, inherited_from, with_child}
 use Rattle.computed_style.specs.Styles.{ComputedStyle}
 use Rattle.computed_style.specs.declared.inherited.Down.{Down}
 use Rattle.computed_style.specs.declared.inherited.InheritedValues.{InheritedValues}
-use Rattle.doc_tree.specs.Element.{Element}
 use Rattle.element_step.specs.Updates.{ElementUpdate, after_of, after_parent, before_parent, cancelled_of, down_after, down_with, entry_after, handed_after, handed_before, handed_now, now_of, now_parent, rendered_after, settled_after, transitions_of}
 use Rattle.element_step.specs.Works.{DocumentEvent, animations_updated, handed_by, entry_at, update_at}
 use Rattle.style_data.specs.Entries.{EntryParts}
-use Rattle.restyle.specs.StyleChanges.{StylesAbove, after_above, before_above, before_of, entry_for, inherited_above, now_above, styles_along, styles_below, update_under}
+use Rattle.restyle.specs.StyleChanges.{StylesAbove, after_above, before_above, before_of, inherited_above, now_above, styles_below}
 
 -- what is handed down, but for whether the elements below have to be updated
 abbrev pub plain : Down → Down

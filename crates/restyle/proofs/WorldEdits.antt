@@ -2,16 +2,17 @@
 use Rattle.std.proofs.Common.{◌≡◌, ℕ, refl, ap, sym, ◌∙◌, subst, inl, inr, arith, eqb, get_or, Bool, true, false, not, ◌||◌, Option, Some, None, List, [], ◌∷◌, ◌++◌, append-nil, append_assoc, filter, map}
 use Rattle.std.specs.Prelude.{All, Ok, is_none, if◌then◌else◌, nat_eq, option_map}
 use Rattle.std.specs.List.{flat_map, list_all, list_any}
-use Rattle.std.proofs.lemmas.Bool.{and_parts, cases_Bool, cases_lt, false≢true, or_left, or_right}
+use Rattle.std.proofs.lemmas.Bool.{and_parts, cases_Bool, cases_lt, or_left, or_right}
 use Rattle.std.proofs.lemmas.List.{map-append}
 use Rattle.std.proofs.lemmas.List.Folds.{list_all-append, list_any-append}
 use Rattle.std.proofs.lemmas.List.Elements.{All-append}
 use Rattle.doc_tree.specs.Change.{IsAdded, IsInserted, new_element, with_change, without}
-use Rattle.doc_tree.specs.Element.{Document, Element, is_in, is_inclusive_descendant, is_used, numbers_of, parent_of, subtree_of}
+use Rattle.doc_tree.specs.Element.{Document, Element, inclusive_ancestors, is_in, is_inclusive_descendant, is_used, numbers_of, parent_of, subtree_of}
 use Rattle.doc_tree.specs.Fault.{Answers, fault_of_add, fault_of_change, fault_of_insert, fault_of_new, has_parent}
 use Rattle.doc_tree.specs.Shape.{IsTree}
 use Rattle.doc_tree.specs.declared.fault.TreeFault.{TreeFault}
 use Rattle.doc_tree.specs.declared.fault.TreeFault.TheVariants as tree
+use Rattle.indexmap.specs.IndexSet.{insert_key}
 use Rattle.script_text.specs.declared.command.Command.{Command}
 use Rattle.script_text.specs.declared.command.Command.TheVariants.{Add, Insert, Remove}
 use Rattle.fix_num.specs.declared.units.Micros.{Micros}
@@ -20,17 +21,32 @@ use Rattle.style_data.specs.Entries.{EntryParts}
 use Rattle.style_data.specs.Transitions.{IsMoment}
 use Rattle.style_data.specs.declared.gone.Gone.{Gone}
 use Rattle.restyle.specs.Distinct.{IsDistinct, IsWorld}
-use Rattle.restyle.specs.Edits.{edited, refusal_of, refusal_of_tree}
-use Rattle.restyle.specs.States.{IsKeptState, departed_in, world_of}
+use Rattle.restyle.specs.Edits.{edited, refusal_of, refusal_of_tree, without_element}
+use Rattle.restyle.specs.Quiet.{IsLeftByFrame}
+use Rattle.restyle.specs.States.{IsKeptState, IsTouched, departed_in, world_of}
 use Rattle.restyle.specs.Worlds.{WorldParts, all_departed_of, entries_of, with_document, world_parts}
 use Rattle.restyle.specs.declared.state.Removed.{Removed}
 use Rattle.restyle.specs.declared.state.WorldState.{WorldState}
 use Rattle.restyle.proofs.NewElements.{added_is, inserted_is}
 use Rattle.restyle.proofs.Numbers.{all_known, among_themselves, by_numbers, departed_again, entries_again, entries_at, is_among, is_known, order_of_entries, unused_absent}
+use Rattle.restyle.proofs.Untouched.{WereUntouched, left_alike, left_with_document, untouched_added, untouched_changed, untouched_inserted, untouched_without}
 
 -- what holds of every edit
 abbrev pub EditLaw : Type 0
 EditLaw = (w : WorldParts) (c : Command) → IsWorld w → refusal_of w c ≡ None → IsDistinct (edited w c)
+
+-- an add, an insert and a removal keep the inclusive ancestors of the other elements
+abbrev pub AddLaw : Type 0
+AddLaw = (old new : Document) (child : Element) (m : ℕ) → IsTree old → IsTree new → IsAdded old new child → is_in m old.elements ≡ true
+    → inclusive_ancestors new.elements m ≡ inclusive_ancestors old.elements m
+
+abbrev pub InsertLaw : Type 0
+InsertLaw = (old new : Document) (n sibling : ℕ) (tag : List ℕ) (m : ℕ) → IsTree old → IsTree new → IsInserted old new n sibling tag → is_in m old.elements ≡ true
+    → inclusive_ancestors new.elements m ≡ inclusive_ancestors old.elements m
+
+abbrev pub RemoveLaw : Type 0
+RemoveLaw = (d : Document) (n m : ℕ) → IsTree d → is_in n d.elements ≡ true → is_in m (without d n).elements ≡ true
+    → inclusive_ancestors (without d n).elements m ≡ inclusive_ancestors d.elements m
 
 -- ---- answers
 
@@ -49,19 +65,34 @@ with_tree s d known =
     ∙ entries_again (numbers_of d.elements) (numbers_of s.tree.elements) s.entries known ∙ sym (by_numbers d.elements s.entries) in
     ap (λ es. world_parts d s.last_sheets s.sheets es (departed_in s.entries s.removed.items) s.time s.frames) (sym again)
 
-pub kept_with_tree : (law : EditLaw) (s : WorldState) (d : Document) (c : Command) → IsKeptState s → IsTree d → list_all (λ e. is_used e.0 d) s.entries ≡ true
-    → refusal_of (world_of s) c ≡ None → world_of (record s { tree = d; quiet = false }) ≡ edited (world_of s) c → IsKeptState (record s { tree = d; quiet = false })
-kept_with_tree law s d c kept tree used accepted is = record {
-  world = record {
-    tree = tree;
-    order = order_of_entries d s.entries;
-    distinct = subst IsDistinct (sym is) (law (world_of s) c kept.world accepted);
-  };
-  time = kept.time;
-  removed = kept.removed;
-  used = used;
-  quiet = λ quiet. absurd (false≢true quiet);
-}
+-- a touched element shows in no world
+world_touched : (before after : WorldState) (n : ℕ) → IsTouched before n after → world_of after ≡ world_of before
+world_touched before after n is = ap world_of is.rest
+
+-- each element that is untouched now was so before the edit
+abbrev pub LeavesOthers : Document → Document → ℕ → Type 0
+LeavesOthers old new n = (touched : List ℕ) → WereUntouched touched (insert_key nat_eq touched n) old new
+
+kept_with_tree : (law : EditLaw) (s s' : WorldState) (d : Document) (n : ℕ) (c : Command) → IsKeptState s → IsTree d → list_all (λ e. is_used e.0 d) s.entries ≡ true
+    → refusal_of (world_of s) c ≡ None → world_of (record s { tree = d }) ≡ with_document (world_of s) d → world_of (record s { tree = d }) ≡ edited (world_of s) c
+    → LeavesOthers s.tree d n → IsTouched (record s { tree = d }) n s' → IsKeptState s'
+kept_with_tree law s s' d n c kept tree used accepted document is others touched =
+    let state : WorldState = record s { tree = d; quiet = s'.quiet; touched = s'.touched } in
+    let all : IsKeptState state = record {
+      world = record {
+        tree = tree;
+        order = order_of_entries d s.entries;
+        distinct = subst IsDistinct (sym is) (law (world_of s) c kept.world accepted);
+      };
+      time = kept.time;
+      removed = kept.removed;
+      used = used;
+      quiet = λ quiet.
+          subst (IsLeftByFrame s'.touched.keys) (sym document)
+          (subst (λ (ks : List ℕ). IsLeftByFrame ks (with_document (world_of s) d)) (sym (touched.touched quiet))
+          (left_with_document s.touched.keys (insert_key nat_eq s.touched.keys n) (world_of s) d (others s.touched.keys) (kept.quiet (touched.quiet quiet))));
+    } in
+    subst IsKeptState (sym touched.rest) all
 
 -- ---- one element more
 
@@ -166,12 +197,15 @@ departed_with s n r time numbers =
 abbrev pub IsEdited : WorldState → WorldState → Command → Type 0
 IsEdited before after c = ((refusal_of (world_of before) c ≡ None) × (world_of after ≡ edited (world_of before) c)) × IsKeptState after
 
-edit_of_tree : (law : EditLaw) (s : WorldState) (d : Document) (c : Command) → IsKeptState s → IsTree d → refusal_of (world_of s) c ≡ None
+edit_of_tree : (law : EditLaw) (s s' : WorldState) (d : Document) (n : ℕ) (c : Command) → IsKeptState s → IsTree d → refusal_of (world_of s) c ≡ None
     → list_all (is_known (numbers_of s.tree.elements) s.entries) (numbers_of d.elements) ≡ true → list_all (λ e. is_used e.0 d) s.entries ≡ true
-    → with_document (world_of s) d ≡ edited (world_of s) c → IsEdited s (record s { tree = d; quiet = false }) c
-edit_of_tree law s d c kept tree accepted known used is =
-    let whole : world_of (record s { tree = d; quiet = false }) ≡ edited (world_of s) c = with_tree s d known ∙ is in
-    ((accepted, whole), kept_with_tree law s d c kept tree used accepted whole)
+    → with_document (world_of s) d ≡ edited (world_of s) c → LeavesOthers s.tree d n → IsTouched (record s { tree = d }) n s' → IsEdited s s' c
+edit_of_tree law s s' d n c kept tree accepted known used is others touched =
+    let document : world_of (record s { tree = d }) ≡ with_document (world_of s) d = with_tree s d known in
+    let whole : world_of (record s { tree = d }) ≡ edited (world_of s) c = document ∙ is in (
+      (accepted, world_touched (record s { tree = d }) s' n touched ∙ whole),
+      kept_with_tree law s s' d n c kept tree used accepted document whole others touched,
+    )
 
 accepted_by_tree : (fault : Option TreeFault) → Answers {T = Unit {0}} fault (Ok tt) → option_map refusal_of_tree fault ≡ None
 accepted_by_tree fault answers = ap (option_map refusal_of_tree) (no_fault fault tt answers)
@@ -179,32 +213,37 @@ accepted_by_tree fault answers = ap (option_map refusal_of_tree) (no_fault fault
 pub accepted_as : {fault other : Option TreeFault} → fault ≡ other → Answers {T = Unit {0}} other (Ok tt) → option_map refusal_of_tree fault ≡ None
 accepted_as {fault = fault} {other = other} same answers = ap (option_map refusal_of_tree) (same ∙ no_fault other tt answers)
 
-pub added : (law : EditLaw) (s : WorldState) (d : Document) (n : ℕ) (parent : Option ℕ) (tag : List ℕ) → IsKeptState s → IsTree d
-    → Answers {T = Unit {0}} (fault_of_add s.tree n parent) (Ok tt) → IsAdded s.tree d (new_element n parent tag) → IsEdited s (record s { tree = d; quiet = false }) (Add n parent tag)
-added law s d n parent tag kept tree answers is =
+pub added : (law : EditLaw) (adds : AddLaw) (s s' : WorldState) (d : Document) (n : ℕ) (parent : Option ℕ) (tag : List ℕ) → IsKeptState s → IsTree d
+    → Answers {T = Unit {0}} (fault_of_add s.tree n parent) (Ok tt) → IsAdded s.tree d (new_element n parent tag) → IsTouched (record s { tree = d }) n s'
+    → IsEdited s s' (Add n parent tag)
+added law adds s s' d n parent tag kept tree answers is touched =
     let none = no_fault (fault_of_add s.tree n parent) tt answers in
-    edit_of_tree law s d (Add n parent tag) kept tree (accepted_by_tree (fault_of_add s.tree n parent) answers)
+    edit_of_tree law s s' d n (Add n parent tag) kept tree (accepted_by_tree (fault_of_add s.tree n parent) answers)
     (one_more_known s d is.before is.after (new_element n parent tag) kept is.was is.is (unused_where_new s.tree n (has_parent parent s.tree) parent none))
     (still_used s d n kept is.used) (ap (with_document (world_of s)) (added_is s.tree d n parent tag is))
+    (λ ns. untouched_added ns s.tree d (new_element n parent tag) is (λ m. adds s.tree d (new_element n parent tag) m kept.world.tree tree is)) touched
 
-pub inserted : (law : EditLaw) (s : WorldState) (d : Document) (n sibling : ℕ) (tag : List ℕ) → IsKeptState s → IsTree d
-    → Answers {T = Unit {0}} (fault_of_insert s.tree n sibling) (Ok tt) → IsInserted s.tree d n sibling tag → IsEdited s (record s { tree = d; quiet = false }) (Insert n sibling tag)
-inserted law s d n sibling tag kept tree answers is =
+pub inserted : (law : EditLaw) (inserts : InsertLaw) (s s' : WorldState) (d : Document) (n sibling : ℕ) (tag : List ℕ) → IsKeptState s → IsTree d
+    → Answers {T = Unit {0}} (fault_of_insert s.tree n sibling) (Ok tt) → IsInserted s.tree d n sibling tag → IsTouched (record s { tree = d }) n s'
+    → IsEdited s s' (Insert n sibling tag)
+inserted law inserts s s' d n sibling tag kept tree answers is touched =
     let none = no_fault (fault_of_insert s.tree n sibling) tt answers in
-    edit_of_tree law s d (Insert n sibling tag) kept tree (accepted_by_tree (fault_of_insert s.tree n sibling) answers)
+    edit_of_tree law s s' d n (Insert n sibling tag) kept tree (accepted_by_tree (fault_of_insert s.tree n sibling) answers)
     (one_more_known s d is.before (is.next ∷ is.after) (new_element n is.next.parent tag) kept is.was is.is
     (unused_where_new s.tree n (is_in sibling s.tree.elements) (parent_of sibling s.tree.elements) none))
     (still_used s d n kept is.used) (ap (with_document (world_of s)) (inserted_is s.tree d n sibling tag kept.world.tree is))
+    (λ ns. untouched_inserted ns s.tree d n sibling tag is (λ m. inserts s.tree d n sibling tag m kept.world.tree tree is)) touched
 
--- element n is changed, and keeps its number
-pub changed : (law : EditLaw) (s : WorldState) (d : Document) (c : Command) (n : ℕ) (change : Element → Element) → IsKeptState s → IsTree d
-    → ((e : Element) → (change e).number ≡ e.number) → refusal_of (world_of s) c ≡ None → d ≡ with_change s.tree n change
-    → with_document (world_of s) (with_change s.tree n change) ≡ edited (world_of s) c → IsEdited s (record s { tree = d; quiet = false }) c
-changed law s d c n change kept tree keeps accepted is same =
-    edit_of_tree law s d c kept tree accepted
-    (same_numbers_known s d (ap (λ (x : Document). numbers_of x.elements) is ∙ changed_numbers s.tree.elements n change keeps))
+-- element n is changed, and keeps its number and its parent
+pub changed : (law : EditLaw) (s s' : WorldState) (d : Document) (c : Command) (n : ℕ) (change : Element → Element) → IsKeptState s → IsTree d
+    → ((e : Element) → (change e).number ≡ e.number) → ((e : Element) → (change e).parent ≡ e.parent) → refusal_of (world_of s) c ≡ None → d ≡ with_change s.tree n change
+    → with_document (world_of s) (with_change s.tree n change) ≡ edited (world_of s) c → IsTouched (record s { tree = d }) n s' → IsEdited s s' c
+changed law s s' d c n change kept tree numbers parents accepted is same touched =
+    edit_of_tree law s s' d n c kept tree accepted
+    (same_numbers_known s d (ap (λ (x : Document). numbers_of x.elements) is ∙ changed_numbers s.tree.elements n change numbers))
     (ap (λ (x : Document). list_all (λ e. is_used e.0 x) s.entries) is ∙ kept.used)
     (ap (with_document (world_of s)) is ∙ same)
+    (subst (λ (x : Document). LeavesOthers s.tree x n) (sym is) (λ ns. untouched_changed n change numbers parents ns s.tree)) touched
 
 -- ---- a removal
 
@@ -227,11 +266,22 @@ entries_without s n =
     ∙ entries_again (numbers_of (without s.tree n).elements) (numbers_of s.tree.elements) s.entries (fewer_known s (λ e. not (is_inclusive_descendant s.tree.elements n e.number)))
     ∙ sym (by_numbers (without s.tree n).elements s.entries)
 
-pub removed : (law : EditLaw) (s s' : WorldState) (n : ℕ) (r : Removed) → IsKeptState s → IsTree s'.tree
+there_where_accepted : (within : Bool) → option_map refusal_of_tree (if within then None else Some tree.UnknownNode) ≡ None → within ≡ true
+there_where_accepted true accepted = refl
+there_where_accepted false accepted = cc
+
+-- a frame leaves what is left by a removal
+left_without : (removes : RemoveLaw) (touched : List ℕ) (w : WorldParts) (n : ℕ) → IsTree w.document → is_in n w.document.elements ≡ true → IsLeftByFrame touched w
+    → IsLeftByFrame touched (without_element w n)
+left_without removes touched w n tree within left =
+    left_alike touched (with_document w (without w.document n)) (without_element w n) refl refl refl refl
+    (left_with_document touched touched w (without w.document n) (untouched_without touched w.document n (λ m. removes w.document n m tree within)) left)
+
+pub removed : (law : EditLaw) (removes : RemoveLaw) (s s' : WorldState) (n : ℕ) (r : Removed) → IsKeptState s → IsTree s'.tree
     → refusal_of (world_of s) (Remove n) ≡ None → s'.tree ≡ without s.tree n → s'.last_sheets ≡ s.last_sheets → s'.sheets ≡ s.sheets → s'.entries ≡ s.entries
-    → s'.time ≡ s.time → s'.frames ≡ s.frames → s'.removed.items ≡ s.removed.items ++ r ∷ [] → s'.quiet ≡ false
+    → s'.time ≡ s.time → s'.frames ≡ s.frames → s'.removed.items ≡ s.removed.items ++ r ∷ [] → s'.quiet ≡ s.quiet → s'.touched.keys ≡ s.touched.keys
     → r.time ≡ s.time → r.numbers.items ≡ numbers_of (subtree_of s.tree.elements n) → IsEdited s s' (Remove n)
-removed law s s' n r kept tree accepted tree_is last_is sheets_is entries_is time_is frames_is items edited_is time numbers = (
+removed law removes s s' n r kept tree accepted tree_is last_is sheets_is entries_is time_is frames_is items quiet_is touched_is time numbers = (
   (accepted, whole),
   record {
     world = record {
@@ -242,7 +292,10 @@ removed law s s' n r kept tree accepted tree_is last_is sheets_is entries_is tim
     time = subst (λ (t : Micros). IsMoment t.0) (sym time_is) kept.time;
     removed = subst (λ (rs : List Removed). All (λ x. IsMoment x.time.0) rs) (sym items) (time_of_all s.time s.removed.items r kept.removed (subst (λ (t : Micros). IsMoment t.0) (sym time) kept.time));
     used = ap (λ (es : List (ℕ × EntryParts)). list_all (λ e. is_used e.0 s'.tree) es) entries_is ∙ ap (λ (x : Document). list_all (λ e. is_used e.0 x) s.entries) tree_is ∙ kept.used;
-    quiet = λ quiet. absurd (false≢true (sym edited_is ∙ quiet));
+    quiet = λ quiet.
+        subst (IsLeftByFrame s'.touched.keys) (sym whole)
+        (subst (λ (ks : List ℕ). IsLeftByFrame ks (without_element (world_of s) n)) (sym touched_is)
+        (left_without removes s.touched.keys (world_of s) n kept.world.tree (there_where_accepted (is_in n s.tree.elements) accepted) (kept.quiet (sym quiet_is ∙ quiet))));
   },
 )
   where

@@ -23,6 +23,8 @@ use Rattle.restyle.specs.Worlds.{WorldParts, all_gone_at, entries_of, frame_of, 
 use Rattle.restyle.specs.declared.state.Removed.{Removed}
 use Rattle.restyle.specs.declared.state.WorldState.{WorldState}
 use Rattle.restyle.proofs.Numbers.{in_order_already, order_of_entries}
+use Rattle.restyle.proofs.QuietWorlds.{ticked_for}
+use Rattle.restyle.proofs.StillEntries.{ticked_parts}
 
 -- ---- the tick
 
@@ -155,34 +157,34 @@ unfolding world_after_frame
 time_kept w = refl
 
 -- a frame leaves its document, its sheets and its entries
-left_by_frame : (w : WorldParts) → IsWorld w → IsLeftByFrame (world_after_frame w)
+left_by_frame : (w : WorldParts) → IsWorld w → IsLeftByFrame [] (world_after_frame w)
 unfolding world_after_frame frame_after
 left_by_frame w world = record {
   last = frame_of (ticked_world w);
   tree = world.tree;
   order = numbers_ticked w.time.0 w.entries ∙ world.order;
-  document = refl;
   old = refl;
   sheets = refl;
-  entries = refl;
+  ancestors = λ n within alone. refl;
+  entries = λ n within alone. refl;
 }
 
--- after the tick the event of the next frame is quiet
-pub ticked_quiet : (w : WorldParts) → IsLeftByFrame w → IsQuietFrame (frame_of (ticked_world w))
-ticked_quiet w left = record {
+-- after the tick the event of the next frame is quiet, but for what was touched
+pub ticked_quiet : (touched : List ℕ) (w : WorldParts) → IsLeftByFrame touched w → IsQuietFrame touched (frame_of (ticked_world w))
+ticked_quiet touched w left = record {
   last = left.last;
   tick = w.time.0;
   tree = left.tree;
   order = left.order;
-  document = left.document;
   old = left.old;
   sheets = left.sheets;
-  entries = ap (map (ticked_entry w.time.0)) left.entries;
+  ancestors = left.ancestors;
+  entries = λ n within alone. ticked_for w.time.0 w.entries n ∙ ap (ticked_parts w.time.0) (left.entries n within alone);
 }
 
 pub state_kept : (law : (w : WorldParts) → IsWorld w → IsDistinct (world_after_frame w)) (s r : WorldState) → IsKeptState s → world_of r ≡ world_after_frame (world_of s)
-    → AreInTreeOrder r.tree r.entries → r.removed.items ≡ [] → IsKeptState r
-state_kept law s r kept is order none =
+    → AreInTreeOrder r.tree r.entries → r.removed.items ≡ [] → r.touched.keys ≡ [] → IsKeptState r
+state_kept law s r kept is order none untouched =
     let tree_is : r.tree ≡ s.tree = ap (λ (w : WorldParts). w.document) is ∙ document_kept (world_of s) in
     let tree : IsTree r.tree = subst IsTree (sym tree_is) kept.world.tree in
     let used = tree.numbers in
@@ -195,7 +197,8 @@ state_kept law s r kept is order none =
       time = subst (λ (w : WorldParts). IsMoment w.time.0) (sym is) (subst (λ t. IsMoment t) (sym (ap (λ m. m.0) (time_kept (world_of s)))) kept.time);
       removed = subst (λ (rs : List Removed). All (λ x. IsMoment x.time.0) rs) (sym none) (λ k d within. absurd (omega (arith, within)));
       used = all_used r.tree r.tree.elements r.entries order used;
-      quiet = λ _. subst IsLeftByFrame (sym is) (left_by_frame (world_of s) kept.world);
+      quiet = λ _.
+          subst (λ (ns : List ℕ). IsLeftByFrame ns (world_of r)) (sym untouched) (subst (IsLeftByFrame []) (sym is) (left_by_frame (world_of s) kept.world));
     }
 
 -- ---- what readers of entries tell

@@ -1,9 +1,10 @@
 -- What a world keeps, and what it stands for.
-use Rattle.std.specs.Prelude.{◌≡◌, ℕ, All, IsTrue, List, [], Option, Some}
+use Rattle.std.specs.Prelude.{◌≡◌, ℕ, nat_eq, All, IsTrue, List, [], Option, Some}
 use Rattle.std.specs.List.{flat_map, list_all}
 use Rattle.doc_tree.specs.Element.{is_used}
 use Rattle.doc_tree.specs.declared.fault.TreeFault.{TreeFault}
 use Rattle.doc_tree.specs.declared.fault.TreeFault.TheVariants as tree
+use Rattle.indexmap.specs.IndexSet.{insert_key}
 use Rattle.script_text.specs.declared.refusal.Refusal.{Refusal}
 use Rattle.script_text.specs.declared.refusal.Refusal.TheVariants as refusal
 use Rattle.sheet_rules.specs.declared.fault.CssFault.{CssFault}
@@ -28,13 +29,13 @@ departed_in entries removed = flat_map (λ r. all_departed_of entries r.time r.n
 abbrev pub world_of : WorldState → WorldParts
 world_of s = world_parts s.tree s.last_sheets s.sheets (entries_of s.tree s.entries) (departed_in s.entries s.removed.items) s.time s.frames
 
--- no element that is new has an entry, and what says that it is quiet is what a frame left, but for the time
+-- no element that is new has an entry, and what says that it is quiet is what a frame left, but for the time and for what was touched
 pub record IsKeptState (s : WorldState) : Type 0 where
   pub world : IsWorld (world_of s)
   pub time : IsMoment s.time.0
   pub removed : All (λ r. IsMoment r.time.0) s.removed.items
   pub used : IsTrue (list_all (λ e. is_used e.0 s.tree) s.entries)
-  pub quiet : IsTrue s.quiet → IsLeftByFrame (world_of s)
+  pub quiet : IsTrue s.quiet → IsLeftByFrame s.touched.keys (world_of s)
 
 -- after the tick of a frame nothing waits of removed elements, and the document, its sheets and the time are as they were
 pub record HasSameRest (before after : WorldState) : Type 0 where
@@ -42,7 +43,14 @@ pub record HasSameRest (before after : WorldState) : Type 0 where
   pub time : after.time ≡ before.time
   pub frames : after.frames ≡ before.frames
   pub quiet : after.quiet ≡ before.quiet
+  pub touched : after.touched ≡ before.touched
   pub removed : after.removed.items ≡ []
+
+-- element n counts as touched too, or nothing as quiet, and all else stays
+pub record IsTouched (before : WorldState) (n : ℕ) (after : WorldState) : Type 0 where
+  pub rest : after ≡ record before { quiet = after.quiet; touched = after.touched }
+  pub quiet : IsTrue after.quiet → IsTrue before.quiet
+  pub touched : IsTrue after.quiet → after.touched.keys ≡ insert_key nat_eq before.touched.keys n
 
 -- what an edit answers where the tree has this fault
 abbrev pub edit_fault_of_tree : TreeFault → EditFault

@@ -7,12 +7,12 @@ ghost use Rattle.script_text.specs.Commands.{AreInBounds, IsNoLongerThan};
 ghost use Rattle.sheet_rules.specs.Faults.{Gives};
 ghost use Rattle.style_data.specs.Transitions.{IsMoment};
 ghost use Rattle.restyle.specs.Edits.{AnswersEdit, refusal_of_question, refusal_of_style, sheet_found};
-ghost use Rattle.restyle.specs.States.{IsFaultOf, IsKeptState, edit_fault_of_css, edit_fault_of_tree, world_of};
+ghost use Rattle.restyle.specs.States.{IsFaultOf, IsKeptState, IsTouched, edit_fault_of_css, edit_fault_of_tree, world_of};
 
 use crate::edit_fault::EditFault;
 use crate::state::{Removed, WorldState};
 use crate::world_laws::worlds_stay_distinct;
-use doc_tree::{Tree, TreeFault};
+use doc_tree::{Tree, TreeFault, laws};
 use fix_num::Micros;
 use script_text::{Command, Refusal, ScriptName};
 use sheet_rules::{CssFault, Sheet, read_sheet, read_style};
@@ -64,16 +64,26 @@ fn css_fault(fault: CssFault) -> EditFault
     }
 }
 
+/// Notes that the node was added or edited. Where there is no memory for that, the next frame takes it that anything may have changed.
+fn touch(state: &mut WorldState, node: u32)
+    ensures { IsTouched state.old node state.new }
+{
+    if state.quiet && state.touched.insert(node).is_err() {
+        state.quiet = false;
+    }
+}
+
 fn add(state: &mut WorldState, node: u32, parent: Option<u32>, tag: &str) -> Result<(), EditFault>
     requires kept { IsKeptState state.old }
     ensures answer { AnswersEdit (world_of state.old) (world_of state.new) (Command.Add node parent tag.now) result }
     ensures kept { IsKeptState state.new }
 {
     worlds_stay_distinct();
+    laws::adds_keep_ancestors();
     match state.tree.add(node, parent, tag) {
         Ok(()) => {
             let _ = state.tree.len();
-            state.quiet = false;
+            touch(state, node);
             Ok(())
         }
         Err(fault) => Err(tree_fault(fault)),
@@ -86,10 +96,11 @@ fn insert(state: &mut WorldState, node: u32, sibling: u32, tag: &str) -> Result<
     ensures kept { IsKeptState state.new }
 {
     worlds_stay_distinct();
+    laws::inserts_keep_ancestors();
     match state.tree.insert(node, sibling, tag) {
         Ok(()) => {
             let _ = state.tree.len();
-            state.quiet = false;
+            touch(state, node);
             Ok(())
         }
         Err(fault) => Err(tree_fault(fault)),
@@ -103,13 +114,13 @@ fn remove(state: &mut WorldState, node: u32) -> Result<(), EditFault>
     ensures kept { IsKeptState state.new }
 {
     worlds_stay_distinct();
+    laws::removals_keep_ancestors();
     let Ok(()) = state.removed.reserve(1) else {
         return Err(EditFault::NoMemory);
     };
     match state.tree.remove(node) {
         Ok(numbers) => {
             let _ = state.tree.len();
-            state.quiet = false;
             let time = state.time;
             state.removed.push(Removed { time, numbers }).unwrap();
             Ok(())
@@ -127,7 +138,7 @@ fn set_id(state: &mut WorldState, node: u32, name: Option<&ScriptName>) -> Resul
     match state.tree.set_id(node, id_text(name)) {
         Ok(()) => {
             let _ = state.tree.len();
-            state.quiet = false;
+            touch(state, node);
             Ok(())
         }
         Err(fault) => Err(tree_fault(fault)),
@@ -161,7 +172,7 @@ fn set_classes(
     match state.tree.set_class(node, words.as_slice()) {
         Ok(()) => {
             let _ = state.tree.len();
-            state.quiet = false;
+            touch(state, node);
             Ok(())
         }
         Err(fault) => Err(tree_fault(fault)),
@@ -192,7 +203,7 @@ fn set_style(state: &mut WorldState, alloc: Global, node: u32, text: &str) -> Re
     match state.tree.set_style(node, text) {
         Ok(()) => {
             let _ = state.tree.len();
-            state.quiet = false;
+            touch(state, node);
             Ok(())
         }
         Err(fault) => Err(tree_fault(fault)),

@@ -29,7 +29,7 @@ pub(crate) trait Pass {
         requires proper { IsTrue (is_proper plan.now.places.items) }
         requires distinct { IsTrue (are_distinct entries.items) }
         requires entries { IsTrue (have_entries plan.now.places.items entries.items) }
-        ensures { IfOk result (λ closing. IsPassOutcome (quiet_meaning work.now.quiet work.now.work) plan.now.places.items entries.items closing.items) };
+        ensures { IfOk result (λ closing. IsPassOutcome (quiet_meaning work.now.quiet work.now.touched.keys work.now.work) plan.now.places.items entries.items closing.items) };
 }
 
 /// On this thread, in tree order.

@@ -12,6 +12,7 @@ use crate::plan::plan_of;
 use doc_tree::laws;
 use element_step::{ElementWork, QuietWork};
 use fix_num::Fix;
+use indexmap::IndexSet;
 use std::alloc::{AllocError, Global};
 use std::thread::Threads;
 use style_data::Entry;
@@ -30,7 +31,7 @@ pub fn restyle_alone(alloc: Global, frame: Frame) -> Result<Restyled, AllocError
     ensures frame { IfOk result (λ r. r.frame ≡ frame_after frame) }
     ensures updated { IfOk result (λ r. r.updated ≡ length frame.document.elements) }
 {
-    restyle_by(&InTreeOrder, alloc, frame, false)
+    restyle_by(&InTreeOrder, alloc, frame, false, IndexSet::new(alloc))
 }
 
 /// The style change event of a frame, by levels: the elements of a level are updated beside each other, in at most so many pieces as there are
@@ -46,18 +47,26 @@ pub fn restyle<R: Threads + Sync>(
     ensures frame { IfOk result (λ r. r.frame ≡ frame_after frame) }
     ensures updated { IfOk result (λ r. r.updated ≡ length frame.document.elements) }
 {
-    restyle_by(&ByLevels { rt, workers }, alloc, frame, false)
+    restyle_by(
+        &ByLevels { rt, workers },
+        alloc,
+        frame,
+        false,
+        IndexSet::new(alloc),
+    )
 }
 
-/// The style change event of a frame, by this pass. Where the frame is known to be quiet, elements at rest under ancestors at rest are passed over.
+/// The style change event of a frame, by this pass. Where the frame is known to be quiet but for elements that were touched, the others are passed over
+/// where they are at rest under ancestors at rest.
 pub(crate) fn restyle_by<P: Pass>(
     pass: &P,
     alloc: Global,
     frame: Frame,
     quiet: bool,
+    touched: IndexSet<u32>,
 ) -> Result<Restyled, AllocError>
     requires ready { P.can_pass pass.now }
-    requires quiet { IsTrue quiet → IsQuietFrame frame }
+    requires quiet { IsTrue quiet → IsQuietFrame touched.keys frame }
     ensures frame { IfOk result (λ r. r.frame ≡ frame_after frame) }
     ensures updated { IfOk result (λ r. r.updated ≡ length frame.document.elements) }
 {
@@ -73,7 +82,11 @@ pub(crate) fn restyle_by<P: Pass>(
     let updated = tree.len() as u32;
     let root_size = root_size_of(entries.as_slice());
     let work = ElementWork::new(time, generation, tree, old, sheets, root_size);
-    let work = QuietWork { work, quiet };
+    let work = QuietWork {
+        work,
+        quiet,
+        touched,
+    };
     let entries = update_all(pass, alloc, &work, entries)?;
     let QuietWork { work, .. } = work;
     let (tree, sheets) = work.into_parts();
@@ -98,7 +111,7 @@ fn update_all<P: Pass>(
 ) -> Result<Vec<(u32, Entry)>, AllocError>
     requires ready { P.can_pass pass.now }
     requires numbers { map (λ x. x.0) entries.items ≡ numbers_of work.now.work.document.elements }
-    requires quiet { IsTrue work.now.quiet → IsQuietEvent work.now.work entries.items }
+    requires quiet { IsTrue work.now.quiet → IsQuietEvent work.now.touched.keys work.now.work entries.items }
     ensures value { IfOk result (λ closing. closing.items ≡ map (λ x. (x.0, entry_after_event work.now.work entries.items x.0)) entries.items) }
     ensures numbers { IfOk result (λ closing. map (λ x. x.0) closing.items ≡ numbers_of work.now.work.document.elements) }
 {

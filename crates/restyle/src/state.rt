@@ -11,6 +11,7 @@ use crate::entries::Entries;
 use crate::world_laws::worlds_stay_distinct;
 use doc_tree::Tree;
 use fix_num::Micros;
+use indexmap::IndexSet;
 use script_text::Refusal;
 use sheet_types::Sheets;
 use std::alloc::{AllocError, Global};
@@ -39,8 +40,10 @@ pub(crate) struct WorldState {
     /// The current time in microseconds.
     pub(crate) time: Micros,
     pub(crate) frames: u32,
-    /// Whether nothing has changed since the last frame but the time.
+    /// Whether there was a frame, since which no sheet has changed, and no element been added or edited but those that are touched.
     pub(crate) quiet: bool,
+    /// Their numbers.
+    pub(crate) touched: IndexSet<u32>,
 }
 
 impl WorldState {
@@ -60,6 +63,7 @@ impl WorldState {
             time: Micros(0),
             frames: 0,
             quiet: false,
+            touched: IndexSet::new(alloc),
         })
     }
 

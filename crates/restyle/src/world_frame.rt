@@ -121,10 +121,11 @@ fn restyled<P: Pass>(
     requires time { IsMoment state.time.0 }
     requires removed { state.removed.items ≡ [] }
     requires few { state.frames < 2 ^ 32 - 1 }
-    requires quiet { IsTrue state.quiet → IsQuietFrame (frame_of (world_of state)) }
+    requires quiet { IsTrue state.quiet → IsQuietFrame state.touched.keys (frame_of (world_of state)) }
     ensures world { IfOk result (λ r. world_of r.0 ≡ with_frame (world_of state) (frame_after (frame_of (world_of state)))) }
     ensures order { IfOk result (λ r. AreInTreeOrder r.0.tree r.0.entries) }
     ensures removed { IfOk result (λ r. r.0.removed.items ≡ []) }
+    ensures touched { IfOk result (λ r. r.0.touched.keys ≡ []) }
     ensures updated { IfOk result (λ r. r.1 ≡ length state.tree.elements) }
 {
     let WorldState {
@@ -136,6 +137,7 @@ fn restyled<P: Pass>(
         time,
         frames,
         quiet,
+        touched,
     } = state;
     let (numbers, entries) = entries.into_parts();
     let frame = Frame::new(FrameContent {
@@ -146,15 +148,21 @@ fn restyled<P: Pass>(
         time,
         generation: frames + 1,
     });
-    let Restyled { frame, updated } = restyle_by(pass, alloc, frame, quiet)?;
-    Ok((state_of(frame, numbers, removed), updated))
+    let Restyled { frame, updated } = restyle_by(pass, alloc, frame, quiet, touched)?;
+    Ok((state_of(alloc, frame, numbers, removed), updated))
 }
 
 /// What is kept of a world after a frame, whose elements have these numbers.
-fn state_of(frame: Frame, numbers: IndexSet<u32>, removed: Vec<Removed>) -> WorldState
+fn state_of(
+    alloc: Global,
+    frame: Frame,
+    numbers: IndexSet<u32>,
+    removed: Vec<Removed>,
+) -> WorldState
     requires numbers { numbers.keys ≡ numbers_of frame.document.elements }
     ensures frame { frame ≡ frame_parts result.tree result.last_sheets result.sheets result.entries result.time result.frames }
     ensures removed { result.removed ≡ removed }
+    ensures touched { result.touched.keys ≡ [] }
 {
     let FrameContent {
         tree,
@@ -173,5 +181,6 @@ fn state_of(frame: Frame, numbers: IndexSet<u32>, removed: Vec<Removed>) -> Worl
         time,
         frames: generation,
         quiet: true,
+        touched: IndexSet::new(alloc),
     }
 }

@@ -1,10 +1,12 @@
 //! The pass by levels beside the pass on one thread: over a wide, a deep and a random tree, with 1, 2, 4 and 64 workers.
 
-ghost use Rattle.std.specs.Prelude.{◌≡◌, ◌+◌, ◌%◌, ◌^◌, map, IfOk, IsTrue};
+ghost use Rattle.std.specs.Prelude.{◌≡◌, map, IfOk, IfSome, IsTrue};
 ghost use Rattle.pass_core.specs.Passes.{are_distinct, have_entries};
 ghost use Rattle.pass_core.specs.Plans.{is_proper};
+ghost use Rattle.pass_core.specs.Work.{IsSibling};
+ghost use Rattle.tests_passes.specs.Works.{summing};
 
-use pass_core::{Place, Plan, Step, TreeWork, pass_alone};
+use pass_core::{Place, Plan, Sibling, Step, TreeWork, pass_alone};
 use std::alloc::{AllocError, Global};
 use std::test::Fail;
 use std::thread::Threads;
@@ -16,22 +18,25 @@ use work_split::by_levels;
 struct Summing;
 
 impl TreeWork for Summing {
-    ghost use Rattle.pass_core.specs.declared.step.Step.TheVariants.{Updated, Kept};
-    ghost use Rattle.std.specs.Prelude.{◌==◌, ◌+◌, ◌%◌, ◌^◌, if◌then◌else◌};
+    ghost use Rattle.tests_passes.specs.Works.{summing};
 
     type Entry = u32;
 
     type Down = u32;
 
-    ghost meaning = { λ w. record { outcome = λ element entry down. if entry == 0 then Kept down else Updated ((entry + down) % 2 ^ 32) ((entry + down) % 2 ^ 32); top = 5 } };
+    ghost meaning = { λ _. summing };
 
-    fn update(
+    fn update<'a>(
         &self,
         _alloc: Global,
         _element: u32,
-        entry: &u32,
-        down: &u32,
-    ) -> Result<Step<u32, u32>, AllocError> {
+        entry: &'a u32,
+        down: &'a u32,
+        _sibling: Option<Sibling<'a, u32, u32>>,
+    ) -> Result<Step<u32, u32>, AllocError>
+        requires { IfSome _sibling (IsSibling summing down.now) }
+        ensures { IfOk result (λ step. step ≡ summing.outcome _element entry.now down.now) }
+    {
         if *entry == 0 {
             return Ok(Step::Kept(*down));
         }
@@ -45,7 +50,7 @@ impl TreeWork for Summing {
 }
 
 /// An element with 100 children.
-const WIDE: [(u32, Option<u32>, u32); 101] = [
+pub(crate) const WIDE: [(u32, Option<u32>, u32); 101] = [
     (1, None, 101),
     (2, Some(0), 2),
     (3, Some(0), 3),
@@ -373,7 +378,7 @@ fn agrees<R: Threads + Sync>(
     Ok(same)
 }
 
-fn plan_of(alloc: Global, table: &[(u32, Option<u32>, u32)]) -> Result<Plan, AllocError>
+pub(crate) fn plan_of(alloc: Global, table: &[(u32, Option<u32>, u32)]) -> Result<Plan, AllocError>
     ensures { IfOk result (λ plan. plan.places.items ≡ map (λ row. record { element = row.0; parent = row.1; end = row.2 }) table.now) }
 {
     let mut places = Vec::new(alloc);

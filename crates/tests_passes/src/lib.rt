@@ -5,3 +5,5 @@
 mod levels;
 #[cfg(test)]
 mod schedules;
+#[cfg(test)]
+mod siblings;

@@ -1,11 +1,15 @@
 //! Schedules of a plan of three elements: a root and its two children.
 
-ghost use Rattle.std.specs.Prelude.{◌≡◌, ℕ, [], ◌∷◌, true, false, IfOk};
+ghost use Rattle.std.specs.Prelude.{◌≡◌, ℕ, [], ◌∷◌, true, false, IfOk, IfSome};
 ghost use Rattle.pass_core.specs.Plans.{is_proper};
 ghost use Rattle.pass_core.specs.Passes.{are_allowed};
+ghost use Rattle.pass_core.specs.Work.{IsSibling};
 ghost use Rattle.pass_core.specs.declared.step.Step.TheVariants.{Kept};
+ghost use Rattle.tests_passes.specs.Works.{handing};
 
-use pass_core::{CoreEvent, CoreState, Place, Plan, Step, TreeWork, pass_alone, run_schedule};
+use pass_core::{
+    CoreEvent, CoreState, Place, Plan, Sibling, Step, TreeWork, pass_alone, run_schedule,
+};
 use std::alloc::{AllocError, Global};
 use std::test::Fail;
 
@@ -16,22 +20,25 @@ struct Handing {
 }
 
 impl TreeWork for Handing {
-    ghost use Rattle.pass_core.specs.declared.step.Step.TheVariants.{Updated, Kept};
-    ghost use Rattle.std.specs.Prelude.{◌==◌, if◌then◌else◌};
+    ghost use Rattle.tests_passes.specs.Works.{handing};
 
     type Entry = u32;
 
     type Down = u32;
 
-    ghost meaning = { λ w. record { outcome = λ element entry down. if entry == down then Kept down else Updated down entry; top = w.top } };
+    ghost meaning = { λ w. handing w.top };
 
-    fn update(
+    fn update<'a>(
         &self,
         _alloc: Global,
         _element: u32,
-        entry: &u32,
-        down: &u32,
-    ) -> Result<Step<u32, u32>, AllocError> {
+        entry: &'a u32,
+        down: &'a u32,
+        _sibling: Option<Sibling<'a, u32, u32>>,
+    ) -> Result<Step<u32, u32>, AllocError>
+        requires { IfSome _sibling (IsSibling (handing self.now.top) down.now) }
+        ensures { IfOk result (λ step. step ≡ (handing self.now.top).outcome _element entry.now down.now) }
+    {
         Ok(if *entry == *down {
             Step::Kept(*down)
         } else {

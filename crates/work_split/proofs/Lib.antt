@@ -4,3 +4,4 @@ pub mod Pieces
 pub mod Putting
 pub mod Seating
 pub mod Standings
+pub mod Earlier

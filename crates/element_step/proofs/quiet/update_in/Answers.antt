@@ -5,10 +5,10 @@ use Rattle.element_step.specs.Works.{outcome_with}
 use Rattle.element_step.proofs.Working.{outcome_is}
 use Rattle.element_step.proofs.quiet.update_in.Goals as goal
 
-pub returns-else-work : goal.returns-else-work
-returns-else-work c =
-    let w = c.args.work.now.work in
+pub returns-else-untouched : goal.returns-else-untouched
+returns-else-untouched c =
+    let w = c.args.work.now in
     let n = c.args.element in
     let entry = c.args.entry.now in
     subst (λ s. IfOk c.update_element.result (λ step. step ≡ s))
-    (sym (outcome_is w n entry c.args.down.now) ∙ ap (λ b. outcome_with w n entry (declared_in b w n entry) c.args.down.now) (sym c.if-work.false)) c.update_element.ensures
+    (sym (outcome_is w n entry c.args.down.now) ∙ ap (λ b. outcome_with w n entry (declared_in b w n entry) c.args.down.now) (sym c.if-untouched.false)) c.update_element.ensures

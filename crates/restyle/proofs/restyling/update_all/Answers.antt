@@ -1,6 +1,5 @@
 use Rattle.std.proofs.Common.{◌≡◌, ◌∙◌, ap, sym, subst, true}
 use Rattle.std.specs.Prelude.{IfOk, Result, Ok, Err}
-use Rattle.doc_tree.specs.Element.{Document}
 use Rattle.doc_tree.specs.Shape.{IsTree}
 use Rattle.element_step.specs.Quiet.{quiet_meaning}
 use Rattle.pass_core.specs.Passes.{IsPassOutcome, have_entries}
@@ -55,8 +54,9 @@ returns-clause-value g c =
       after = c.unchanged_lists_change_nothing.ensures.after;
       paused = c.paused_samples_stay.ensures;
     } in
+    let touched = c.args.work.now.touched.keys in
     if_ok c.closing_entries.result (λ closing outcome.
-    whole_quiet w tree trees entries c.args.work.now.quiet (λ quiet. quiet_leaves trees laws w entries (c.requires.quiet quiet)) closing.items c.requires.numbers
+    whole_quiet w tree trees entries c.args.work.now.quiet touched (λ quiet. quiet_leaves trees laws touched w tree entries (c.requires.quiet quiet)) closing.items c.requires.numbers
     (entries_distinct w tree trees entries c.requires.numbers)
-    (subst (λ ps. IsPassOutcome (quiet_meaning c.args.work.now.quiet w) ps entries closing.items) (c.in_ok-plan.ensures.value ∙ ap places_of c.tree.ensures) outcome))
+    (subst (λ ps. IsPassOutcome (quiet_meaning c.args.work.now.quiet touched w) ps entries closing.items) (c.in_ok-plan.ensures.value ∙ ap places_of c.tree.ensures) outcome))
     c.closing_entries.ensures

@@ -38,6 +38,7 @@ returns-clause-world c =
       time = c.take_entries.new.state.time;
       frames = c.take_entries.new.state.frames;
       quiet = c.take_entries.new.state.quiet;
+      touched = c.take_entries.new.state.touched;
     }) = record {
       tree = ap (λ (x : WorldState). x.tree) rest ∙ c.renumber.ensures;
       last_sheets = ap (λ (x : WorldState). x.last_sheets) rest;
@@ -57,6 +58,7 @@ returns-clause-world c =
       time = c.take_entries.new.state.time;
       frames = c.take_entries.new.state.frames;
       quiet = c.take_entries.new.state.quiet;
+      touched = c.take_entries.new.state.touched;
     }) c.requires.kept.world.tree ticked
 
 pub returns-clause-order : goal.returns-clause-order
@@ -73,6 +75,7 @@ returns-clause-order c =
       time = c.take_entries.new.state.time;
       frames = c.take_entries.new.state.frames;
       quiet = c.take_entries.new.state.quiet;
+      touched = c.take_entries.new.state.touched;
     }) = record {
       tree = ap (λ (x : WorldState). x.tree) rest ∙ c.renumber.ensures;
       last_sheets = ap (λ (x : WorldState). x.last_sheets) rest;
@@ -92,4 +95,5 @@ returns-clause-order c =
       time = c.take_entries.new.state.time;
       frames = c.take_entries.new.state.frames;
       quiet = c.take_entries.new.state.quiet;
+      touched = c.take_entries.new.state.touched;
     }) ticked

@@ -11,7 +11,7 @@ new-frame-requires-clause-entries g c = ap (map (λ x. x.0)) (sym c.into_parts-n
 
 pub restyle_by-requires-clause-quiet : goal.restyle_by-requires-clause-quiet
 restyle_by-requires-clause-quiet g c = λ quiet.
-    subst IsQuietFrame
+    subst (IsQuietFrame c.args.state.touched.keys)
     (sym (c.new-frame.ensures
     ∙ ap (λ es. frame_parts c.args.state.tree c.args.state.last_sheets c.args.state.sheets es c.args.state.time (c.args.state.frames + 1))
     (sym c.into_parts-numbers.ensures.list ∙ sym (in_order_already c.args.state.tree c.args.state.entries c.requires.tree c.requires.order))))
