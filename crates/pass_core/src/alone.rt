@@ -40,7 +40,7 @@ pub fn pass_alone<W: TreeWork>(
     ensures { IfOk result (λ closing. IsPassOutcome (W.meaning work.now) plan.now.places.items entries.items closing.items) }
 {
     let mut closing = entries;
-    let mut done = Vec::new(alloc);
+    let mut done = Vec::with_capacity(alloc, plan.places.len())?;
     let mut last = None;
     let mut next = 0usize;
     for place in &plan.places {
