@@ -1,8 +1,8 @@
 -- Declarations as they are kept, read and put.
 use Rattle.std.proofs.Common.{◌≡◌, Bor, ℕ, zero, suc, refl, sym, ◌∙◌, ap, subst, inl, inr, arith, rules}
-use Rattle.std.specs.Prelude.{◌≢◌, nat_eq, Bool, List, ◌∷◌, [], All, true, false, cond, find, map, option_map, Option, None, Some, IfSome, option_copied, length, insert, set, slice_index_or, Result, Ok, Err, OnErr, OnOk}
+use Rattle.std.specs.Prelude.{◌≢◌, nat_eq, Bool, List, ◌∷◌, [], All, true, false, cond, find, is_some, ◌||◌, map, option_map, Option, None, Some, IfSome, option_copied, length, insert, set, slice_index_or, Result, Ok, Err, OnErr, OnOk}
 use Rattle.std.specs.Bool.{OnFalse, OnTrue}
-use Rattle.std.proofs.lemmas.Bool.{cases_eq}
+use Rattle.std.proofs.lemmas.Bool.{cases_eq, or_left, or_right}
 use Rattle.std.proofs.lemmas.List.{get_or-set_other, get_or-set_same, length-set}
 use Rattle.value_types.specs.ListValues.{IsListValueFor, timing_lists}
 use Rattle.value_types.specs.Properties.{all_properties, number_of}
@@ -13,7 +13,8 @@ use Rattle.value_types.specs.declared.list_value.ListValue.{ListValue}
 use Rattle.value_types.specs.declared.property.PropertyId.{PropertyId}
 use Rattle.computed_style.specs.ByProperty.{kept_for}
 use Rattle.computed_style.specs.KeptDeclarations.{AreKept, ListDeclarations, PropertyDeclarations, TellsDeclared, declarations_in, list_winners_in, winners_in}
-use Rattle.computed_style.specs.Winners.{AreDeclarations, declarations, place_of, kept_for_list, list_winner_of, list_winners_of, no_declarations, no_list_winners, no_winners, winners_of, with_declaration, with_list_declaration}
+use Rattle.computed_style.specs.declared.winners.Winners.{Winners}
+use Rattle.computed_style.specs.Winners.{AreDeclarations, declarations, is_declared, place_of, kept_for_list, list_winner_of, list_winners_of, no_declarations, no_list_winners, no_winners, winners_of, with_declaration, with_list_declaration}
 use Rattle.computed_style.proofs.EveryProperty.{at_list, at_property, put_list, put_property}
 use Rattle.computed_style.proofs.Lookups.{found_has}
 use Rattle.computed_style.proofs.Tables.{number_small, same_list}
@@ -123,47 +124,50 @@ no_declarations_are = record {
 unlike : (m n : ℕ) → m ≢ n → nat_eq m n ≡ false
 unlike m n off = grind (off, arith, rules)
 
+like : (m n : ℕ) → m ≡ n → nat_eq m n ≡ true
+like m n same = grind (same, arith, rules)
+
 kept_other : {A : Type 0} (x : PropertyId × A) (xs : List (PropertyId × A)) (q : PropertyId) → number_of x.0 ≢ number_of q → kept_for q (x ∷ xs) ≡ kept_for q xs
 kept_other x xs q off =
     ap (λ b. option_map (λ k. k.1) (cond b (Some x) (find (λ k. nat_eq (number_of k.0) (number_of q)) xs))) (unlike (number_of x.0) (number_of q) off)
 
--- a property that isn't said to be declared once this one is, is another one, and wasn't said to be before
-not_this : (declares : List Bool) (p q : PropertyId) → length declares ≡ 24 → slice_index_or (set declares (number_of p) true) (number_of q) false ≡ false
-    → (number_of p ≢ number_of q) × (slice_index_or declares (number_of q) false ≡ false)
-not_this declares p q count none = elim (cases_eq (number_of q) (number_of p)) [
+-- the flags tell what is declared once this property is, in a list that has it first
+tells_put : (declares : List Bool) (p q : PropertyId) (now was : Winners) → length declares ≡ 24 → (number_of q ≡ number_of p → is_declared now ≡ true)
+    → (number_of q ≢ number_of p → now ≡ was) → slice_index_or declares (number_of q) false ≡ is_declared was
+    → slice_index_or (set declares (number_of p) true) (number_of q) false ≡ is_declared now
+tells_put declares p q now was count here other told = elim (cases_eq (number_of q) (number_of p)) [
   | inl same ↦
-      let is : slice_index_or (set declares (number_of p) true) (number_of q) false ≡ true =
-      ap (λ n. slice_index_or (set declares (number_of p) true) n false) same ∙ get_or-set_same declares (number_of p) true false (rw count (number_small p)) in
-      absurd (cc)
-  | inr other ↦ (λ e. other (sym e), sym (get_or-set_other declares (number_of p) (number_of q) true false other) ∙ none)
+      ap (λ n. slice_index_or (set declares (number_of p) true) n false) same ∙ get_or-set_same declares (number_of p) true false (rw count (number_small p)) ∙ sym (here same)
+  | inr off ↦
+      get_or-set_other declares (number_of p) (number_of q) true false off ∙ told ∙ ap is_declared (sym (other off))
 ]
 
-pub tells_more : (declares : List Bool) (i n : PropertyDeclarations) (p : PropertyId) → length declares ≡ 24 → TellsDeclared declares i n
-    → TellsDeclared (set declares (number_of p) true) i n
-tells_more declares i n p count tells q none = tells q (not_this declares p q count none).1
+kept_same : {A : Type 0} (x : PropertyId × A) (xs : List (PropertyId × A)) (q : PropertyId) → number_of q ≡ number_of x.0 → kept_for q (x ∷ xs) ≡ Some x.1
+kept_same x xs q same =
+    ap (λ b. option_map (λ k. k.1) (cond b (Some x) (find (λ k. nat_eq (number_of k.0) (number_of q)) xs))) (like (number_of x.0) (number_of q) (sym same))
 
 pub tells_important : (declares : List Bool) (i n : PropertyDeclarations) (p : PropertyId) (v : Declared) → length declares ≡ 24 → TellsDeclared declares i n
     → TellsDeclared (set declares (number_of p) true) ((p, v) ∷ i) n
-tells_important declares i n p v count tells q none =
-    let (off, before) = not_this declares p q count none in
-    let (important, normal) = tells q before in
-    (kept_other (p, v) i q off ∙ important, normal)
+tells_important declares i n p v count tells q =
+    tells_put declares p q (winners_in ((p, v) ∷ i) n q) (winners_in i n q) count
+    (λ same. or_left (is_some (kept_for q ((p, v) ∷ i))) (is_some (kept_for q n)) (ap is_some (kept_same (p, v) i q same)))
+    (λ off. ap (λ o. record { important = o; normal = kept_for q n }) (kept_other (p, v) i q (λ e. off (sym e)))) (tells q)
 
 pub tells_normal : (declares : List Bool) (i n : PropertyDeclarations) (p : PropertyId) (v : Declared) → length declares ≡ 24 → TellsDeclared declares i n
     → TellsDeclared (set declares (number_of p) true) i ((p, v) ∷ n)
-tells_normal declares i n p v count tells q none =
-    let (off, before) = not_this declares p q count none in
-    let (important, normal) = tells q before in
-    (important, kept_other (p, v) n q off ∙ normal)
+tells_normal declares i n p v count tells q =
+    tells_put declares p q (winners_in i ((p, v) ∷ n) q) (winners_in i n q) count
+    (λ same. or_right (is_some (kept_for q i)) (is_some (kept_for q ((p, v) ∷ n))) (ap is_some (kept_same (p, v) n q same)))
+    (λ off. ap (λ o. record { important = kept_for q i; normal = o }) (kept_other (p, v) n q (λ e. off (sym e)))) (tells q)
 
 all_first : {A : Type 0} (P : A → Type 0) (x : A) (xs : List A) → P x → All P xs → All P (x ∷ xs)
 all_first P x xs is all zero d l = is
 all_first P x xs is all (suc k) d l = all k d (omega arith)
 
--- what is kept stays in order when a declaration is put, or isn't for want of memory
-pub kept_important : {T E : Type 0} (r : Result T E) (declares : List Bool) (i n : PropertyDeclarations) (il nl : ListDeclarations) (p : PropertyId) (v : Declared) (after : PropertyDeclarations)
-    → AreKept declares i n il nl → IsDeclaredFor p v → OnOk r (after ≡ (p, v) ∷ i) → OnErr r (after ≡ i) → AreKept (set declares (number_of p) true) after n il nl
-kept_important (Ok x) declares i n il nl p v after kept is ok err = rw ok record {
+-- what is kept stays in order when a declaration is put
+pub kept_important : (declares : List Bool) (i n : PropertyDeclarations) (il nl : ListDeclarations) (p : PropertyId) (v : Declared)
+    → AreKept declares i n il nl → IsDeclaredFor p v → AreKept (set declares (number_of p) true) ((p, v) ∷ i) n il nl
+kept_important declares i n il nl p v kept is = record {
   count = length-set declares (number_of p) true ∙ kept.count;
   tells = tells_important declares i n p v kept.count kept.tells;
   important = all_first (λ d. IsDeclaredFor d.0 d.1) (p, v) i is kept.important;
@@ -171,18 +175,10 @@ kept_important (Ok x) declares i n il nl p v after kept is ok err = rw ok record
   important_lists = kept.important_lists;
   normal_lists = kept.normal_lists;
 }
-kept_important (Err e) declares i n il nl p v after kept is ok err = rw err record {
-  count = length-set declares (number_of p) true ∙ kept.count;
-  tells = tells_more declares i n p kept.count kept.tells;
-  important = kept.important;
-  normal = kept.normal;
-  important_lists = kept.important_lists;
-  normal_lists = kept.normal_lists;
-}
 
-pub kept_normal : {T E : Type 0} (r : Result T E) (declares : List Bool) (i n : PropertyDeclarations) (il nl : ListDeclarations) (p : PropertyId) (v : Declared) (after : PropertyDeclarations)
-    → AreKept declares i n il nl → IsDeclaredFor p v → OnOk r (after ≡ (p, v) ∷ n) → OnErr r (after ≡ n) → AreKept (set declares (number_of p) true) i after il nl
-kept_normal (Ok x) declares i n il nl p v after kept is ok err = rw ok record {
+pub kept_normal : (declares : List Bool) (i n : PropertyDeclarations) (il nl : ListDeclarations) (p : PropertyId) (v : Declared)
+    → AreKept declares i n il nl → IsDeclaredFor p v → AreKept (set declares (number_of p) true) i ((p, v) ∷ n) il nl
+kept_normal declares i n il nl p v kept is = record {
   count = length-set declares (number_of p) true ∙ kept.count;
   tells = tells_normal declares i n p v kept.count kept.tells;
   important = kept.important;
@@ -190,19 +186,18 @@ kept_normal (Ok x) declares i n il nl p v after kept is ok err = rw ok record {
   important_lists = kept.important_lists;
   normal_lists = kept.normal_lists;
 }
-kept_normal (Err e) declares i n il nl p v after kept is ok err = rw err record {
-  count = length-set declares (number_of p) true ∙ kept.count;
-  tells = tells_more declares i n p kept.count kept.tells;
-  important = kept.important;
-  normal = kept.normal;
-  important_lists = kept.important_lists;
-  normal_lists = kept.normal_lists;
-}
 
--- a property that isn't said to be declared has no winners
-pub not_declared : (b : Bool) (declares : List Bool) (i n : PropertyDeclarations) (il nl : ListDeclarations) (p : PropertyId) → AreKept declares i n il nl
-    → b ≡ slice_index_or declares (number_of p) false → OnFalse b (winners_of (declarations_in i n il nl) p ≡ no_winners)
-not_declared true declares i n il nl p kept is = tt
-not_declared false declares i n il nl p kept is =
-    let (important, normal) = kept.tells p (sym is) in
-    winners_of-declarations_in i n il nl p ∙ rw (important, normal) refl
+-- whether a property is declared is told
+pub told : (b : Bool) (declares : List Bool) (i n : PropertyDeclarations) (il nl : ListDeclarations) (p : PropertyId) → AreKept declares i n il nl
+    → b ≡ slice_index_or declares (number_of p) false → b ≡ is_declared (winners_of (declarations_in i n il nl) p)
+told b declares i n il nl p kept is = is ∙ kept.tells p ∙ ap is_declared (sym (winners_of-declarations_in i n il nl p))
+
+both_none : (important normal : Option Declared) → (is_some important || is_some normal) ≡ false → record { important = important; normal = normal } ≡ no_winners
+both_none None None none = refl
+both_none (Some x) normal none = absurd (cc)
+both_none None (Some x) none = absurd (cc)
+
+-- a property that isn't declared has no winners
+pub not_declared : (b : Bool) (w : Winners) → b ≡ is_declared w → OnFalse b (w ≡ no_winners)
+not_declared true w is = tt
+not_declared false w is = both_none w.important w.normal (sym is)

@@ -1,5 +1,5 @@
 -- Declarations as they are kept: what is declared alone.
-use Rattle.std.specs.Prelude.{◌≡◌, Bool, false, List, All, length, map, None, slice_index_or}
+use Rattle.std.specs.Prelude.{◌≡◌, Bool, false, List, All, length, map, slice_index_or}
 use Rattle.value_types.specs.ListValues.{IsListValueFor, timing_lists}
 use Rattle.value_types.specs.Properties.{all_properties, number_of}
 use Rattle.value_types.specs.Validity.{IsDeclaredFor}
@@ -8,7 +8,7 @@ use Rattle.value_types.specs.declared.list_value.ListName.{ListName}
 use Rattle.value_types.specs.declared.list_value.ListValue.{ListValue}
 use Rattle.value_types.specs.declared.property.PropertyId.{PropertyId}
 use Rattle.computed_style.specs.ByProperty.{kept_for}
-use Rattle.computed_style.specs.Winners.{Declarations, ListWinners, declarations, kept_for_list}
+use Rattle.computed_style.specs.Winners.{Declarations, ListWinners, declarations, is_declared, kept_for_list}
 use Rattle.computed_style.specs.declared.winners.Winners.{Winners}
 
 abbrev pub PropertyDeclarations : Type 0
@@ -38,10 +38,9 @@ AreDeclared ds = All (λ d. IsDeclaredFor d.0 d.1) ds
 abbrev pub AreListsDeclared : ListDeclarations → Type 0
 AreListsDeclared ds = All (λ d. IsListValueFor d.0 d.1) ds
 
--- a property for which this says no, by its number, isn't declared
+-- this says, by their numbers, which properties are declared
 abbrev pub TellsDeclared : List Bool → PropertyDeclarations → PropertyDeclarations → Type 0
-TellsDeclared declares important normal =
-    (p : PropertyId) → slice_index_or declares (number_of p) false ≡ false → (kept_for p important ≡ None) × (kept_for p normal ≡ None)
+TellsDeclared declares important normal = (p : PropertyId) → slice_index_or declares (number_of p) false ≡ is_declared (winners_in important normal p)
 
 -- all that is kept declares what it stands for, and which properties are declared is told
 pub record AreKept (declares : List Bool) (i n : PropertyDeclarations) (il nl : ListDeclarations) : Type 0 where

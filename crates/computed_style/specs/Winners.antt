@@ -1,5 +1,5 @@
 -- The winning declarations of an element (CSS Cascade 5, section 6).
-use Rattle.std.specs.Prelude.{◌≡◌, ℕ, nat_eq, Bool, true, false, List, map, set, length, slice_index_or, find, IfSome, Option, None, Some, option_map, if◌then◌else◌}
+use Rattle.std.specs.Prelude.{◌≡◌, ℕ, nat_eq, Bool, true, false, ◌||◌, is_some, List, map, set, length, slice_index_or, find, IfSome, Option, None, Some, option_map, if◌then◌else◌}
 use Rattle.value_types.specs.ListValues.{IsListValueFor, timing_lists}
 use Rattle.value_types.specs.Properties.{all_properties, number_of}
 use Rattle.value_types.specs.Validity.{IsDeclaredFor}
@@ -41,6 +41,10 @@ place_of list.AnimationPlayState = 11
 -- no declaration wins
 abbrev pub no_winners : Winners
 no_winners = record { important = None; normal = None }
+
+-- something is declared of the property
+abbrev pub is_declared : Winners → Bool
+is_declared w = is_some w.important || is_some w.normal
 
 abbrev pub no_list_winners : ListWinners
 no_list_winners = record { important = None; normal = None }

@@ -8,7 +8,7 @@ ghost use Rattle.value_types.specs.TransitionLists.{initial_transitions};
 ghost use Rattle.value_types.specs.Validity.{IsDeclaredFor};
 ghost use Rattle.computed_style.specs.ByProperty.{kept_for};
 ghost use Rattle.computed_style.specs.ComputedStyles.{animation_lists_of, transition_lists_of};
-ghost use Rattle.computed_style.specs.Winners.{AreDeclarations, AreWinnersFor, kept_for_list, list_winner_of, list_winners_of, no_declarations, no_winners, place_of, winners_of, with_declaration, with_list_declaration};
+ghost use Rattle.computed_style.specs.Winners.{AreDeclarations, AreWinnersFor, is_declared, kept_for_list, list_winner_of, list_winners_of, no_declarations, no_winners, place_of, winners_of, with_declaration, with_list_declaration};
 
 use crate::shared_winners::SharedWinners;
 use crate::winners::Winners;
@@ -67,12 +67,15 @@ impl Winning {
         ensures ok { OnOk result (self.new ≡ with_declaration self.old p important declared) }
         ensures err { OnErr result (self.new ≡ self.old) }
     {
-        self.declares[p.number() as usize] = true;
+        let number = p.number() as usize;
         if important {
-            put_first(&mut self.important, (p, declared))
+            put_first(&mut self.important, (p, declared))?;
+            self.declares[number] = true;
         } else {
-            put_first(&mut self.normal, (p, declared))
+            put_first(&mut self.normal, (p, declared))?;
+            self.declares[number] = true;
         }
+        Ok(())
     }
 
     /// Makes this declaration win among the important or the normal ones of the timing list. Where memory runs
@@ -150,7 +153,8 @@ impl Winning {
 
     /// Whether something is declared of the property.
     pub(crate) fn declares(&self, p: PropertyId) -> bool
-        ensures { OnFalse result (winners_of self.now p ≡ no_winners) }
+        ensures value { result ≡ is_declared (winners_of self.now p) }
+        ensures none { OnFalse result (winners_of self.now p ≡ no_winners) }
     {
         self.declares[p.number() as usize]
     }
@@ -264,7 +268,8 @@ impl DeclaredSet {
 
     /// Whether something is declared of the property.
     pub fn declares(&self, p: PropertyId) -> bool
-        ensures { OnFalse result (winners_of self.now p ≡ no_winners) }
+        ensures value { result ≡ is_declared (winners_of self.now p) }
+        ensures none { OnFalse result (winners_of self.now p ≡ no_winners) }
     {
         match &self.set {
             None => false,

@@ -203,7 +203,13 @@ impl Style {
         ensures valid { IsValid p result }
         ensures all { AreValid self.now.values }
     {
-        given_for(self.given.as_slice(), p).unwrap_or(base_value(&self.base, p))
+        match given_for(self.given.as_slice(), p) {
+            Some(value) => {
+                hold_values(&self.base);
+                value
+            }
+            None => base_value(&self.base, p),
+        }
     }
 
     /// Whether both have the same value of a property. Takes least time where both are based on the initial style.
@@ -294,6 +300,16 @@ fn base_value(base: &Option<Shared<BaseValues>>, p: PropertyId) -> Value
     match base {
         None => initial_value(p),
         Some(base) => base.get().value(p),
+    }
+}
+
+/// What is given is on top of a valid value of each property.
+fn hold_values(base: &Option<Shared<BaseValues>>)
+    ensures { AreValid (unwrap_or base.now initial_values) }
+{
+    if let Some(base) = base {
+        // What its type says of the values is wanted.
+        let _ = base.get().value(PropertyId::Color);
     }
 }
 

@@ -11,24 +11,19 @@ use Rattle.change_styles.specs.ThreeStyles.{after_change_style, current_style, n
 use Rattle.computed_style.specs.Winners.{Declarations}
 use Rattle.computed_style.specs.declared.inherited.Down.{Down}
 use Rattle.doc_tree.specs.Element.{is_in, parent_of}
-use Rattle.fix_num.specs.declared.units.Micros.{Micros}
 use Rattle.pass_core.specs.declared.step.Step.{Step}
 use Rattle.pass_core.specs.declared.step.Step.TheVariants.{Kept, Updated}
-use Rattle.sheet_types.specs.Sheets.{SheetRules}
 use Rattle.style_data.specs.Entries.{EffectLists, EntryParts}
 use Rattle.style_data.specs.TransitionSets.{TransitionSet, no_transitions, transition_set}
-use Rattle.style_data.specs.declared.animation.AnimationState.{AnimationState}
 use Rattle.style_data.specs.declared.transition.Completed.{Completed}
-use Rattle.style_data.specs.declared.decision.Decision.{Decision}
 use Rattle.style_data.specs.declared.gone.Gone.{Gone}
 use Rattle.style_data.specs.declared.transition.Transition.{Transition}
-use Rattle.timing_types.specs.TimingLists.{AnimationValues}
 use Rattle.transition_start.specs.Change.{Change, change_at, property_change}
 use Rattle.transition_start.specs.Functions.{decision_of, rule_of}
-use Rattle.transition_start.specs.Results.{decision_by, decision_with, new_transition, reversing_transition}
+use Rattle.transition_start.specs.Results.{decision_by, new_transition, reversing_transition}
 use Rattle.transition_start.specs.Rules.{CancelsAtOnce, CancelsThere, DropsCompleted, Keeps, Replaces, Reverses, Rule, Starts, Unmatched}
 use Rattle.transition_start.specs.Sampling.{sample_of}
-use Rattle.transition_update.specs.Updates.{StyleChange, all_cancelled, by_property, cancelled_by, change_of, decision_for, style_change, transitions_after}
+use Rattle.transition_update.specs.Updates.{StyleChange, all_cancelled, cancelled_by, change_of, decision_for, style_change, transitions_after}
 use Rattle.transition_update.specs.declared.event.StyleChangeEvent.{StyleChangeEvent}
 use Rattle.value_types.specs.Properties.{all_properties}
 use Rattle.value_types.specs.declared.property.PropertyId.{PropertyId}

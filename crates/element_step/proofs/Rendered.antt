@@ -1,11 +1,11 @@
 -- Elements that are rendered, and elements that aren't.
 use Rattle.std.proofs.Common.{◌≡◌, refl, sym, ◌∙◌, ap}
-use Rattle.std.specs.Prelude.{Bool, true, false, ◌==◌, ◌&&◌, if◌then◌else◌, List, [], ◌∷◌, ◌++◌, length, Option}
+use Rattle.std.specs.Prelude.{Bool, true, false, ◌==◌, ◌&&◌, if◌then◌else◌, List, [], ◌∷◌, ◌++◌, length, Option, None, Some}
 use Rattle.std.specs.List.{list_all}
 use Rattle.computed_style.specs.Styles.{ComputedStyle, value_of}
 use Rattle.computed_style.specs.declared.inherited.InheritedValues.{InheritedValues}
 use Rattle.change_styles.specs.Inheritance.{handed_down}
-use Rattle.change_styles.specs.ThreeStyles.{after_change_style, current_style, no_animations}
+use Rattle.change_styles.specs.ThreeStyles.{after_change_style, before_change_style, current_style, no_animations}
 use Rattle.interpolation.proofs.EqualityLemmas.{same_tells}
 use Rattle.interpolation.specs.Equality.{is_same}
 use Rattle.style_data.specs.Entries.{EntryParts, effect_lists, entry_parts}
@@ -15,7 +15,7 @@ use Rattle.transition_update.specs.Updates.{all_cancelled}
 use Rattle.value_types.specs.Properties.{all_properties}
 use Rattle.value_types.specs.declared.property.PropertyId.{PropertyId}
 use Rattle.element_step.specs.Settling.{has_ended, have_same_values}
-use Rattle.element_step.specs.Updates.{ElementUpdate, after_of, after_parent, cancelled_from, cancelled_of, change_in, down_after, down_with, entry_after, handed_after, handed_before, handed_now, now_of, now_parent, rendered_after, settled_after, transitions_from, transitions_of}
+use Rattle.element_step.specs.Updates.{ElementUpdate, after_of, after_parent, before_parent, cancelled_from, cancelled_of, change_in, down_after, down_told, down_with, entry_after, handed_after, handed_before, handed_now, now_of, now_parent, rendered_after, settled_after, transitions_from, transitions_of, unless_leaf}
 
 -- ---- rendered
 
@@ -115,3 +115,17 @@ entry_is x gone rendered settled now ts cancelled r s n t c =
     ∙ ap (λ v. entry_with x gone (rendered_after x) (settled_after x) v ts cancelled) n
     ∙ ap (λ v. entry_with x gone (rendered_after x) (settled_after x) (now_of x) v cancelled) t
     ∙ ap (entry_with x gone (rendered_after x) (settled_after x) (now_of x) (transitions_of x)) c
+
+-- what its before-change style hands down
+abbrev pub down_before : ElementUpdate → InheritedValues
+down_before x = handed_down (before_parent x.parent) (before_change_style x.entry x.old x.event.time.0 (before_parent x.parent))
+
+-- unless it is a leaf, the element is told what its styles hand down
+pub told_is : (leaf : Bool) (x : ElementUpdate) (before after now : Option InheritedValues) (rendered : Bool)
+    → before ≡ (if x.entry.rendered then unless_leaf leaf (down_before x) else None) → after ≡ unless_leaf leaf (handed_after x) → now ≡ unless_leaf leaf (handed_now x)
+    → rendered ≡ rendered_after x → down_told x.entry x.root_size before after now rendered ≡ unless_leaf leaf (down_after x)
+told_is true x before after now rendered b a n r = ap (λ o. down_told x.entry x.root_size before o now rendered) a
+told_is false x before after now rendered b a n r =
+    ap (λ o. down_told x.entry x.root_size before o now rendered) a
+    ∙ ap (λ o. down_told x.entry x.root_size before (Some (handed_after x)) o rendered) n
+    ∙ ap Some (down_is x before (handed_after x) (handed_now x) rendered b refl refl r)

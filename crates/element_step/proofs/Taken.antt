@@ -1,12 +1,11 @@
 -- The outcome of a sibling's update, where it is the element's too.
-use Rattle.std.proofs.Common.{◌≡◌, ◌∙◌, refl, sym, ap, subst, ℕ, Bool, true, false, ◌&&◌, ◌||◌, eqb, List, [], ◌∷◌, Option, Some, None, inl, inr}
+use Rattle.std.proofs.Common.{◌≡◌, ◌∙◌, refl, sym, ap, ℕ, Bool, true, false, ◌&&◌, ◌||◌, eqb, List, [], ◌∷◌, Option, Some, None, inl, inr}
 use Rattle.std.specs.Prelude.{IsSomeAnd, if◌then◌else◌, unwrap_or}
 use Rattle.std.specs.Option.{option_map_or}
 use Rattle.std.proofs.lemmas.Bool.{cases_Bool}
-use Rattle.cascade_sort.specs.Alike.{AreAlike, AreSiblingsAlike}
+use Rattle.cascade_sort.specs.Alike.{AreAlike}
 use Rattle.computed_style.specs.declared.inherited.Down.{Down}
-use Rattle.doc_tree.specs.Element.{Document, Element, element_of, is_in, parent_of}
-use Rattle.pass_core.specs.declared.step.Step.{Step}
+use Rattle.doc_tree.specs.Element.{Element, element_of, is_in, parent_of}
 use Rattle.pass_core.specs.declared.step.Step.TheVariants.{Kept, Updated}
 use Rattle.style_data.specs.Entries.{EntryParts}
 use Rattle.element_step.specs.Alike.{AreOfOneKind, TellTheSame}

@@ -12,7 +12,7 @@ use Rattle.fix_num.specs.declared.units.Fix.{Fix}
 use Rattle.pass_core.specs.declared.step.Step.TheVariants.{Kept, Updated}
 use Rattle.style_data.specs.Entries.{EntryParts, entry_parts, no_effects}
 use Rattle.element_step.specs.Alike.{TellTheSame}
-use Rattle.element_step.specs.Updates.{ElementUpdate, after_of, cancelled_of, differs, down_after, down_with, entry_after, handed_after, handed_before, handed_now, now_of, rendered_after, settled_after, transitions_of}
+use Rattle.element_step.specs.Updates.{after_of, cancelled_of, differs, down_after, down_with, entry_after, handed_after, handed_before, handed_now, now_of, rendered_after, settled_after, transitions_of}
 use Rattle.element_step.specs.Works.{DocumentEvent, animations_updated, entry_with, from_parent, handed_with, outcome_with, update_with}
 
 -- the entry with another current style, and settled or not

@@ -1,29 +1,36 @@
 -- Elements of which nothing changes but by their transitions.
-use Rattle.std.proofs.Common.{◌≡◌, refl, sym, ◌∙◌, ap}
-use Rattle.std.specs.Prelude.{ℤ, Bool, true, false, ◌&&◌, List, [], Option}
+use Rattle.std.proofs.Common.{◌≡◌, ℕ, refl, sym, ◌∙◌, ap, subst, arith, rules}
+use Rattle.std.specs.Prelude.{ℤ, Bool, true, false, cond, find, nat_eq, not, ◌&&◌, List, [], ◌∷◌, Option, None, Some, length, option_map, unwrap_or}
 use Rattle.std.specs.Bool.{OnTrue}
 use Rattle.std.proofs.lemmas.Bool.Decides.{Decides-and, Decides-int_eq}
 use Rattle.fix_num.specs.declared.units.Fix.{Fix}
 use Rattle.value_types.specs.declared.property.PropertyId.{PropertyId}
-use Rattle.value_types.specs.declared.property.PropertyId.TheVariants.{FontSize}
+use Rattle.value_types.specs.declared.property.PropertyId.TheVariants.{Color, FontSize, LetterSpacing, Visibility}
 use Rattle.value_types.specs.declared.value.Value.{Value}
-use Rattle.value_types.specs.Properties.{all_properties}
+use Rattle.value_types.specs.Properties.{all_properties, number_of}
+use Rattle.value_types.specs.Table.{is_inherited}
 use Rattle.computed_style.specs.ByProperty.{kept_for}
-use Rattle.computed_style.specs.ComputedStyles.{AnimatedValues}
-use Rattle.computed_style.specs.Styles.{ComputedStyle, style_with, value_of}
+use Rattle.computed_style.proofs.StyleLemmas.{value_at-values_with}
+use Rattle.computed_style.proofs.Tables.{same_property}
+use Rattle.computed_style.specs.ComputedStyles.{AnimatedValues, computed_style}
+use Rattle.computed_style.specs.Styles.{ComputedStyle, font_size_of, inherited_of, pixels_of_length, style_with, value_of}
 use Rattle.computed_style.specs.Winners.{Declarations}
+use Rattle.computed_style.specs.declared.inherited.Down.{Down}
 use Rattle.computed_style.specs.declared.inherited.InheritedValues.{InheritedValues}
 use Rattle.interpolation.proofs.EqualityLemmas.{same_tells}
+use Rattle.change_styles.specs.Inheritance.{handed_down}
 use Rattle.change_styles.specs.ThreeStyles.{after_change_style, before_change_style, transitioned_at}
 use Rattle.change_styles.proofs.OnTop.{before-on_top}
+use Rattle.change_styles.proofs.PathLemmas.{none_given}
 use Rattle.style_data.specs.Entries.{EntryParts}
-use Rattle.style_data.specs.TransitionSets.{TransitionSet, no_transitions}
+use Rattle.style_data.specs.TransitionSets.{TransitionSet}
 use Rattle.style_data.specs.declared.transition.Transition.{Transition}
-use Rattle.transition_update.proofs.Quiet.{none_after, none_cancelled}
-use Rattle.transition_update.specs.Updates.{StyleChange, cancelled_by, style_change, transitions_after}
+use Rattle.transition_update.specs.Idle.{AreOthersSame}
+use Rattle.transition_update.specs.Updates.{style_change}
 use Rattle.transition_update.specs.declared.event.StyleChangeEvent.{StyleChangeEvent}
+use Rattle.element_step.specs.Restyling.{IsUnchanged, RunOn, none_inherited}
 use Rattle.element_step.specs.Settling.{have_same_values, is_same_inherited}
-use Rattle.element_step.specs.Updates.{cancelled_from, transitions_from}
+use Rattle.element_step.specs.Updates.{after_parent, before_parent, cancelled_from, transitions_from}
 use Rattle.element_step.proofs.Rendered.{same_itself}
 
 -- ---- what is inherited
@@ -52,33 +59,116 @@ pub on_true : {P : Type 0} (b : Bool) → (b ≡ true → P) → OnTrue b P
 on_true true h = h refl
 on_true false h = tt
 
--- ---- an element without transitions
+-- ---- an element with transitions
 
--- its before-change style is its after-change style
-pub before_is_after : (e : EntryParts) (d : Declarations) (old : AnimatedValues) (t : ℤ) (before after : Option InheritedValues) (s : ComputedStyle) → e.declared ≡ d → before ≡ after
-    → e.effects.transitions ≡ no_transitions → s ≡ after_change_style d old after → s ≡ before_change_style e old t before
-before_is_after e d old t before after s declared inherited none is =
-    is
-    ∙ ap (λ (ts : TransitionSet). style_with (after_change_style d old after) (transitioned_at ts.running t)) (sym none)
-    ∙ before-on_top e d old t before after declared inherited (ap (λ (ts : TransitionSet). kept_for FontSize ts.running) none)
+-- a property of which none runs has the same value below
+same_value : (d : Declarations) (old : AnimatedValues) (parent : Option InheritedValues) (after : ComputedStyle) (running : List (PropertyId × Transition)) (t : ℤ)
+    → after ≡ after_change_style d old parent → (p : PropertyId) → kept_for p running ≡ None → value_of (style_with after (transitioned_at running t)) p ≡ value_of after p
+unfolding computed_style
+same_value d old parent after running t is p none =
+    value_at-values_with after.values (transitioned_at running t) p (ap (λ (s : ComputedStyle). length s.values) is)
+    ∙ ap (λ o. unwrap_or o (value_of after p)) (none_given running p t none)
 
-pub none_start : (e : EntryParts) (old : AnimatedValues) (before : Option InheritedValues) (after : ComputedStyle) (event : StyleChangeEvent) → e.rendered ≡ true
-    → e.effects.transitions ≡ no_transitions → after ≡ before_change_style e old event.time.0 before
-    → no_transitions ≡ transitions_from e.rendered (style_change (before_change_style e old event.time.0 before) after event) e.effects.transitions
-none_start e old before after event rendered none is =
-    let x : StyleChange = style_change (before_change_style e old event.time.0 before) after event in
+-- a property of which none runs has the same value under the values that the running ones give
+pub others_same : (d : Declarations) (old : AnimatedValues) (parent : Option InheritedValues) (after : ComputedStyle) (ts : TransitionSet) (t : ℤ)
+    → after ≡ after_change_style d old parent → AreOthersSame (style_with after (transitioned_at ts.running t)) after ts
+others_same d old parent after ts t is = λ p none. same_value d old parent after ts.running t is p none.running
+
+number : (m n : ℕ) → nat_eq m n ≡ true → m ≡ n
+number m n e = grind (arith, rules)
+
+and_left : (a b : Bool) → (a && b) ≡ true → a ≡ true
+and_left true b e = refl
+and_left false b e = absurd (cc)
+
+and_right : (a b : Bool) → (a && b) ≡ true → b ≡ true
+and_right true b e = e
+and_right false b e = absurd (cc)
+
+no_longer : (a : Bool) → not a ≡ true → a ≡ true → ⊥
+no_longer true e is = cc
+no_longer false e is = cc
+
+-- none runs of an inherited property
+none_runs : (running : List (PropertyId × Transition)) (p : PropertyId) → none_inherited running ≡ true → is_inherited p ≡ true → kept_for p running ≡ None
+none_runs [] p none is = refl
+none_runs (r ∷ rs) p none is = go (nat_eq (number_of r.0) (number_of p)) refl (λ later. none_runs rs p later is) where
+  go : (b : Bool) → nat_eq (number_of r.0) (number_of p) ≡ b → (none_inherited rs ≡ true → kept_for p rs ≡ None)
+      → option_map (λ k. k.1) (cond b (Some r) (find (λ k. nat_eq (number_of k.0) (number_of p)) rs)) ≡ None
+  go true e later =
+      absurd
+      (no_longer (is_inherited r.0) (and_left (not (is_inherited r.0)) (none_inherited rs) none)
+      (ap is_inherited (same_property r.0 p (number (number_of r.0) (number_of p) e)) ∙ is))
+  go false e later = later (and_right (not (is_inherited r.0)) (none_inherited rs) none)
+
+-- styles with the same inherited values hand down the same
+same_inherited_of : (a b : ComputedStyle) (root : Fix) → ((p : PropertyId) → is_inherited p ≡ true → value_of a p ≡ value_of b p) → inherited_of a root ≡ inherited_of b root
+unfolding inherited
+same_inherited_of a b root same =
+    ap (λ v. inherited v (font_size_of a) (value_of a LetterSpacing) (value_of a Visibility) root) (same Color refl)
+    ∙ ap (λ v. inherited (value_of b Color) (pixels_of_length v) (value_of a LetterSpacing) (value_of a Visibility) root) (same FontSize refl)
+    ∙ ap (λ v. inherited (value_of b Color) (font_size_of b) v (value_of a Visibility) root) (same LetterSpacing refl)
+    ∙ ap (λ v. inherited (value_of b Color) (font_size_of b) (value_of b LetterSpacing) v root) (same Visibility refl)
+
+same_handed : (above : Option InheritedValues) (a b : ComputedStyle) → ((p : PropertyId) → is_inherited p ≡ true → value_of a p ≡ value_of b p) → handed_down above a ≡ handed_down above b
+same_handed None a b same = same_inherited_of a b (font_size_of a) same ∙ ap (λ v. inherited_of b (pixels_of_length v)) (same FontSize refl)
+same_handed (Some i) a b same = same_inherited_of a b i.root_size same
+
+-- where none runs of an inherited property, the values that the running ones give change nothing of what is handed down
+pub handed_alike : (d : Declarations) (old : AnimatedValues) (parent : Option InheritedValues) (after s : ComputedStyle) (running : List (PropertyId × Transition)) (t : ℤ)
+    → after ≡ after_change_style d old parent → s ≡ style_with after (transitioned_at running t) → none_inherited running ≡ true → (above : Option InheritedValues) → above ≡ parent
+    → handed_down parent after ≡ handed_down above s
+handed_alike d old parent after s running t is on_top none above inherits =
     sym
-    (ap (λ (b : Bool). transitions_from b x e.effects.transitions) rendered ∙ ap (λ (ts : TransitionSet). transitions_after x ts) none
-    ∙ none_after x (λ p. ap (λ (s : ComputedStyle). value_of s p) (sym is)))
+    (ap (handed_down above) on_top
+    ∙ same_handed above (style_with after (transitioned_at running t)) after (λ p inherited. same_value d old parent after running t is p (none_runs running p none inherited))
+    ∙ ap (λ (i : Option InheritedValues). handed_down i after) inherits)
 
-pub none_end : (e : EntryParts) (old : AnimatedValues) (before : Option InheritedValues) (after : ComputedStyle) (event : StyleChangeEvent) → e.rendered ≡ true
-    → e.effects.transitions ≡ no_transitions → after ≡ before_change_style e old event.time.0 before
-    → [] ≡ cancelled_from e.rendered (style_change (before_change_style e old event.time.0 before) after event) e.effects.transitions
-none_end e old before after event rendered none is =
-    let x : StyleChange = style_change (before_change_style e old event.time.0 before) after event in
+-- ---- an element whose transitions run on
+
+-- none runs of the font size, which is inherited: its before-change style is its after-change style with the values that the
+-- running ones give
+on_top : (e : EntryParts) (d : Declarations) (old : AnimatedValues) (t : ℤ) (parent : Option Down) (after : ComputedStyle) → IsUnchanged e d parent
+    → RunOn after e.effects.transitions → after ≡ after_change_style d old (after_parent parent)
+    → style_with after (transitioned_at e.effects.transitions.running t) ≡ before_change_style e old t (before_parent parent)
+on_top e d old t parent after unchanged on is =
+    ap (λ (s : ComputedStyle). style_with s (transitioned_at e.effects.transitions.running t)) is
+    ∙ before-on_top e d old t (before_parent parent) (after_parent parent) unchanged.declared unchanged.inherited
+    (none_runs e.effects.transitions.running FontSize on.inherited refl)
+
+others_stay : (e : EntryParts) (d : Declarations) (old : AnimatedValues) (t : ℤ) (parent : Option Down) (after : ComputedStyle) → IsUnchanged e d parent
+    → RunOn after e.effects.transitions → after ≡ after_change_style d old (after_parent parent)
+    → AreOthersSame (before_change_style e old t (before_parent parent)) after e.effects.transitions
+others_stay e d old t parent after unchanged on is =
+    subst (λ (s : ComputedStyle). AreOthersSame s after e.effects.transitions) (on_top e d old t parent after unchanged on is)
+    (others_same d old (after_parent parent) after e.effects.transitions t is)
+
+pub all_left : (e : EntryParts) (d : Declarations) (old : AnimatedValues) (parent : Option Down) (after : ComputedStyle) (event : StyleChangeEvent) → e.rendered ≡ true
+    → IsUnchanged e d parent → RunOn after e.effects.transitions → after ≡ after_change_style d old (after_parent parent)
+    → e.effects.transitions
+    ≡ transitions_from e.rendered (style_change (before_change_style e old event.time.0 (before_parent parent)) after event) e.effects.transitions
+all_left e d old parent after event rendered unchanged on is =
+    let before = before_change_style e old event.time.0 (before_parent parent) in
     sym
-    (ap (λ (b : Bool). cancelled_from b x e.effects.transitions) rendered ∙ ap (λ (ts : TransitionSet). cancelled_by x ts) none
-    ∙ none_cancelled x (λ p. ap (λ (s : ComputedStyle). value_of s p) (sym is)))
+    (ap (λ (b : Bool). transitions_from b (style_change before after event) e.effects.transitions) rendered
+    ∙ on.stay.transitions before event (others_stay e d old event.time.0 parent after unchanged on is))
+
+pub none_gone : (e : EntryParts) (d : Declarations) (old : AnimatedValues) (parent : Option Down) (after : ComputedStyle) (event : StyleChangeEvent) → e.rendered ≡ true
+    → IsUnchanged e d parent → RunOn after e.effects.transitions → after ≡ after_change_style d old (after_parent parent)
+    → [] ≡ cancelled_from e.rendered (style_change (before_change_style e old event.time.0 (before_parent parent)) after event) e.effects.transitions
+none_gone e d old parent after event rendered unchanged on is =
+    let before = before_change_style e old event.time.0 (before_parent parent) in
+    sym
+    (ap (λ (b : Bool). cancelled_from b (style_change before after event) e.effects.transitions) rendered
+    ∙ on.stay.cancelled before event (others_stay e d old event.time.0 parent after unchanged on is))
+
+-- its before-change style hands down what its after-change style does
+pub handed_on : (e : EntryParts) (d : Declarations) (old : AnimatedValues) (t : ℤ) (parent : Option Down) (after : ComputedStyle) → IsUnchanged e d parent
+    → RunOn after e.effects.transitions → after ≡ after_change_style d old (after_parent parent)
+    → handed_down (after_parent parent) after ≡ handed_down (before_parent parent) (before_change_style e old t (before_parent parent))
+handed_on e d old t parent after unchanged on is =
+    handed_alike d old (after_parent parent) after (before_change_style e old t (before_parent parent)) e.effects.transitions.running t is
+    (sym (on_top e d old t parent after unchanged on is)) on.inherited (before_parent parent) unchanged.inherited
 
 -- ---- settled
 

@@ -1,6 +1,6 @@
 -- Elements at rest: where an element and its ancestors are as they were at the event before, and so are the sheets, the update of such an element under
 -- ancestors at rest leaves its entry as it is (CSS Transitions 1, section 3 "Starting of transitions").
-use Rattle.std.specs.Prelude.{ℕ, ◌==◌, nat_eq, Bool, true, false, ◌&&◌, not, List, length, Option, None, Some, unwrap_or, if◌then◌else◌}
+use Rattle.std.specs.Prelude.{ℕ, ◌==◌, nat_eq, Bool, true, false, ◌&&◌, not, List, length, Option, None, Some, option_map, unwrap_or, if◌then◌else◌}
 use Rattle.std.specs.List.{list_any}
 use Rattle.change_styles.specs.Inheritance.{handed_down}
 use Rattle.computed_style.specs.Winners.{Declarations}
@@ -42,6 +42,15 @@ is_untouched_below touched n down = down.untouched && not (list_any (nat_eq n) t
 abbrev pub moving_step : Bool → Step EntryParts Down → Step EntryParts QuietDown
 moving_step untouched (Updated entry down) = Updated entry (quiet_down (Some down) false untouched)
 moving_step untouched (Kept down) = Kept (quiet_down (Some down) false untouched)
+
+-- what such an element hands down, where that is told
+abbrev pub moving_down : Bool → Option Down → Option QuietDown
+moving_down untouched down = option_map (λ d. quiet_down (Some d) false untouched) down
+
+-- the same outcome, which may tell what is handed down
+abbrev pub moving_told : Bool → Step EntryParts (Option Down) → Step EntryParts (Option QuietDown)
+moving_told untouched (Updated entry down) = Updated entry (moving_down untouched down)
+moving_told untouched (Kept down) = Kept (moving_down untouched down)
 
 -- what an element declares: where it is untouched what it did at the event before
 abbrev pub declared_in : Bool → DocumentEvent → ℕ → EntryParts → Declarations

@@ -145,3 +145,12 @@ down_with entry root_size before after now rendered = record {
 
 unfoldable pub down_after : ElementUpdate → Down
 down_after x = down_with x.entry x.root_size (handed_before x) (handed_after x) (handed_now x) (rendered_after x)
+
+-- what is handed down; of a leaf, below which nothing is updated, nobody asks for it
+abbrev pub unless_leaf : {D : Type 0} → Bool → D → Option D
+unless_leaf leaf down = (if leaf then None else Some down)
+
+-- what an element hands down of these, where it is told what its after-change and its current style hand down
+abbrev pub down_told : EntryParts → Option Fix → Option InheritedValues → Option InheritedValues → Option InheritedValues → Bool → Option Down
+down_told entry root_size before after now rendered =
+    option_and_then (λ a. option_map (λ n. down_with entry root_size before a n rendered) now) after

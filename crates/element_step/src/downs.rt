@@ -1,16 +1,20 @@
 //! What an element hands down.
 
-ghost use Rattle.std.specs.Prelude.{◌≡◌, IfSome, false, option_copied, option_map};
+ghost use Rattle.std.specs.Prelude.{◌≡◌, IfSome, IsTrue, false, option_copied, option_map};
 ghost use Rattle.computed_style.specs.Styles.{inherited_of};
 ghost use Rattle.value_types.specs.Ranges.{IsSize};
+ghost use Rattle.change_styles.specs.Inheritance.{handed_down};
+ghost use Rattle.element_step.specs.Restyling.{none_inherited};
 ghost use Rattle.element_step.specs.Settling.{is_same_inherited};
 ghost use Rattle.std.specs.Bool.{OnTrue};
 ghost use Rattle.std.specs.Option.{option_map_or};
-ghost use Rattle.element_step.specs.Updates.{after_parent, before_parent, changed_from, differs, down_with, now_parent};
+ghost use Rattle.element_step.specs.Updates.{after_parent, before_parent, changed_from, differs, down_told, down_with, now_parent, unless_leaf};
 
+use change_styles::handed_down;
 use fix_num::Fix;
 use interpolation::same;
-use style_data::{Down, Entry, Inherited, Style};
+use style_data::{Down, Entry, Inherited, Running, Style};
+use value_types::{PropertyId, is_inherited};
 
 /// What the parent hands down of its before-change style; `None` of the root, and where it has none.
 pub(crate) fn before_parent(parent: Option<&Down>) -> Option<&Inherited>
@@ -53,8 +57,28 @@ fn handed_last(now: &Style, root_size: Option<Fix>) -> Option<Inherited>
     }
 }
 
+/// What an element hands down of its three styles, where it's told what the after-change and the current one hand down.
+pub(crate) fn hand_down_told(
+    entry: &Entry,
+    root_size: Option<Fix>,
+    before: Option<Inherited>,
+    after: Option<&Inherited>,
+    now: Option<&Inherited>,
+    rendered: bool,
+) -> Option<Down>
+    requires { IfSome root_size IsSize }
+    ensures { result ≡ down_told entry.now root_size before (option_copied after.entry) (option_copied now.entry) rendered }
+{
+    match (after, now) {
+        (Some(after), Some(now)) => Some(hand_down(
+            entry, root_size, before, *after, *now, rendered,
+        )),
+        _ => None,
+    }
+}
+
 /// What an element hands down of its three styles, none of the before-change style where it wasn't rendered before.
-pub(crate) fn hand_down(
+fn hand_down(
     entry: &Entry,
     root_size: Option<Fix>,
     before: Option<Inherited>,
@@ -115,6 +139,45 @@ fn differs(was: Option<&Inherited>, now: Inherited) -> bool
         None => true,
         Some(was) => !is_same_inherited(*was, now),
     }
+}
+
+/// What a style hands down; `None` of a leaf.
+pub(crate) fn handed_unless_leaf(
+    style: &Style,
+    above: Option<&Inherited>,
+    leaf: bool,
+) -> Option<Inherited>
+    ensures { result ≡ unless_leaf leaf (handed_down (option_copied above.entry) style.now) }
+{
+    if leaf {
+        None
+    } else {
+        Some(handed_down(style, above))
+    }
+}
+
+/// The same: it's this, where no running transition of an inherited property tells it apart.
+pub(crate) fn handed_alike(
+    style: &Style,
+    above: Option<&Inherited>,
+    running: &[(PropertyId, Running)],
+    alike: Option<&Inherited>,
+    leaf: bool,
+) -> Option<Inherited>
+    requires { IsTrue (none_inherited running.now) → option_copied alike ≡ unless_leaf leaf (handed_down (option_copied above) style.now) }
+    ensures { result ≡ unless_leaf leaf (handed_down (option_copied above.entry) style.now) }
+{
+    if !leaf && none_inherited(running) {
+        return alike.copied();
+    }
+    handed_unless_leaf(style, above, leaf)
+}
+
+/// Whether no transition of an inherited property runs.
+pub(crate) fn none_inherited(running: &[(PropertyId, Running)]) -> bool
+    ensures { result ≡ none_inherited running.now }
+{
+    running.iter().all(|item| !is_inherited(item.0))
 }
 
 /// Whether two styles inherit the same.

@@ -1,8 +1,9 @@
 //! Floor: element and frame. Knows one element's entry at one style change event, what its parent hands down, the document and
 //! its sheets, and no thread.
 //!
-//! The update of an element at a style change event: `update_element(alloc, &work, n, &entry, &down)?` is its new entry and what
-//! it hands down, where `work` is the event of a document; `update_entry` is the same over declarations and animations.
+//! The update of an element at a style change event: `update_element(alloc, &work, n, &entry, &down, leaf)?` is its new entry and
+//! what it hands down, unless it is a leaf, where `work` is the event of a document; `update_entry` is the same over declarations
+//! and animations.
 #![tactic(auto)]
 
 mod alike;

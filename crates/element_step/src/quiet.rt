@@ -1,11 +1,12 @@
 //! The work of a style change event that passes over elements at rest.
 
-ghost use Rattle.std.specs.Prelude.{◌≡◌, ◌&&◌, not, nat_eq, false, IfOk, IfSome, None, Some, option_copied, unwrap_or, if◌then◌else◌};
+ghost use Rattle.std.specs.Prelude.{◌≡◌, ◌&&◌, ◌||◌, is_some, not, nat_eq, true, IfOk, IfSome, None, Some, option_copied, unwrap_or, if◌then◌else◌};
 ghost use Rattle.std.specs.Bool.{OnTrue};
 ghost use Rattle.std.specs.List.{list_any};
 ghost use Rattle.element_step.specs.Alike.{AreOfOneKind, GivesTheSame};
-ghost use Rattle.element_step.specs.Quiet.{declared_in, handed_at_rest, has_no_effects, is_at_rest, is_untouched_below, moving_step, quiet_down, quiet_meaning, quiet_outcome};
-ghost use Rattle.pass_core.specs.Work.{IsSibling};
+ghost use Rattle.element_step.specs.Quiet.{declared_in, handed_at_rest, has_no_effects, is_at_rest, is_untouched_below, moving_down, moving_told, quiet_down, quiet_meaning, quiet_outcome};
+ghost use Rattle.pass_core.specs.Work.{asked, IsSibling};
+ghost use Rattle.element_step.specs.Updates.{unless_leaf};
 ghost use Rattle.element_step.specs.Works.{outcome_with, top_down};
 
 use crate::alike::tell_the_same;
@@ -42,7 +43,7 @@ pub struct QuietDown {
 impl TreeWork for QuietWork {
     ghost use Rattle.std.specs.Prelude.{IfSome};
     ghost use Rattle.element_step.specs.Quiet.{quiet_meaning};
-    ghost use Rattle.pass_core.specs.Work.{IsSibling};
+    ghost use Rattle.pass_core.specs.Work.{asked, IsSibling};
 
     type Entry = Entry;
 
@@ -57,11 +58,12 @@ impl TreeWork for QuietWork {
         entry: &'a Entry,
         down: &'a QuietDown,
         sibling: Option<Sibling<'a, Entry, QuietDown>>,
-    ) -> Result<Step<Entry, QuietDown>, AllocError>
+        leaf: bool,
+    ) -> Result<Step<Entry, Option<QuietDown>>, AllocError>
         requires { IfSome sibling (IsSibling (quiet_meaning self.now.quiet self.now.touched.keys self.now.work) down.now) }
-        ensures { IfOk result (λ step. step ≡ (quiet_meaning self.now.quiet self.now.touched.keys self.now.work).outcome element entry.now down.entry.now) }
+        ensures { IfOk result (λ step. step ≡ asked leaf ((quiet_meaning self.now.quiet self.now.touched.keys self.now.work).outcome element entry.now down.entry.now)) }
     {
-        update_unless_at_rest(alloc, self, element, entry, down, sibling)
+        update_unless_at_rest(alloc, self, element, entry, down, sibling, leaf)
     }
 
     fn top(&self) -> QuietDown {
@@ -74,7 +76,7 @@ impl TreeWork for QuietWork {
 }
 
 /// The update of an element: where it is untouched and at rest, under ancestors at rest in a quiet event, it is kept as it is; what a
-/// sibling's update gave is taken over where it is the element's outcome too.
+/// sibling's update gave is taken over where it is the element's outcome too, and tells what is asked for.
 fn update_unless_at_rest(
     alloc: Global,
     work: &QuietWork,
@@ -82,28 +84,54 @@ fn update_unless_at_rest(
     entry: &Entry,
     down: &QuietDown,
     sibling: Option<Sibling<'_, Entry, QuietDown>>,
-) -> Result<Step<Entry, QuietDown>, AllocError>
+    leaf: bool,
+) -> Result<Step<Entry, Option<QuietDown>>, AllocError>
     requires { IfSome sibling (IsSibling (quiet_meaning work.now.quiet work.now.touched.keys work.now.work) down.now) }
-    ensures { IfOk result (λ step. step ≡ quiet_outcome work.now.touched.keys work.now.work element entry.now down.entry.now) }
+    ensures { IfOk result (λ step. step ≡ asked leaf (quiet_outcome work.now.touched.keys work.now.work element entry.now down.entry.now)) }
 {
     let untouched = is_untouched(work, element, down.untouched);
     if is_passed_over(untouched, down.rests, entry) {
-        let parent = Some(handed_at_rest(entry, down.parent.as_ref()));
-        return Ok(Step::Kept(QuietDown {
-            parent,
-            rests: true,
-            untouched: true,
-        }));
+        return Ok(Step::Kept(resting_down(entry, down.parent.as_ref(), leaf)));
     }
     if let Some(sibling) = sibling {
-        if gives_the_same(work, untouched, element, entry, down, &sibling) {
+        if tells_enough(&sibling, leaf)
+            && gives_the_same(work, untouched, element, entry, down, &sibling)
+        {
             let after = sibling.after.copy(alloc)?;
-            return Ok(Step::Updated(after, *sibling.down));
+            return Ok(Step::Updated(after, taken_down(&sibling, leaf)));
         }
     }
     let parent = down.parent.as_ref();
-    let step = update_below(alloc, &work.work, untouched, element, entry, parent)?;
+    let step = update_below(alloc, &work.work, untouched, element, entry, parent, leaf)?;
     Ok(moving_step(untouched, step))
+}
+
+/// What an element at rest hands down under ancestors at rest; `None` of a leaf.
+fn resting_down(entry: &Entry, parent: Option<&Down>, leaf: bool) -> Option<QuietDown>
+    ensures { result ≡ unless_leaf leaf (quiet_down (Some (handed_at_rest entry.now (option_copied parent.entry))) true true) }
+{
+    if leaf {
+        return None;
+    }
+    Some(QuietDown {
+        parent: Some(handed_at_rest(entry, parent)),
+        rests: true,
+        untouched: true,
+    })
+}
+
+/// Whether the sibling tells what is asked for: what is handed down, unless the element is a leaf.
+fn tells_enough(sibling: &Sibling<'_, Entry, QuietDown>, leaf: bool) -> bool
+    ensures { result ≡ (leaf || is_some sibling.now.down) }
+{
+    leaf || sibling.down.is_some()
+}
+
+/// What is taken over of what the sibling hands down; `None` of a leaf.
+fn taken_down(sibling: &Sibling<'_, Entry, QuietDown>, leaf: bool) -> Option<QuietDown>
+    ensures { result ≡ (if leaf then None else option_copied sibling.now.down) }
+{
+    if leaf { None } else { sibling.down.copied() }
 }
 
 /// Whether the sibling's update gave what the element's gives: nothing tells them apart but their places, and it left no effects, which
@@ -151,12 +179,13 @@ fn update_below(
     element: u32,
     entry: &Entry,
     parent: Option<&Down>,
-) -> Result<Step<Entry, Down>, AllocError>
-    ensures { IfOk result (λ step. step ≡ outcome_with work.now element entry.now (declared_in untouched work.now element entry.now) (unwrap_or (option_copied parent.entry) top_down)) }
+    leaf: bool,
+) -> Result<Step<Entry, Option<Down>>, AllocError>
+    ensures { IfOk result (λ step. step ≡ asked leaf (outcome_with work.now element entry.now (declared_in untouched work.now element entry.now) (unwrap_or (option_copied parent.entry) top_down))) }
 {
     match parent {
-        None => update_in(alloc, work, untouched, element, entry, &top()),
-        Some(down) => update_in(alloc, work, untouched, element, entry, down),
+        None => update_in(alloc, work, untouched, element, entry, &top(), leaf),
+        Some(down) => update_in(alloc, work, untouched, element, entry, down, leaf),
     }
 }
 
@@ -168,19 +197,20 @@ fn update_in(
     element: u32,
     entry: &Entry,
     down: &Down,
-) -> Result<Step<Entry, Down>, AllocError>
-    ensures { IfOk result (λ step. step ≡ outcome_with work.now element entry.now (declared_in untouched work.now element entry.now) down.entry.now) }
+    leaf: bool,
+) -> Result<Step<Entry, Option<Down>>, AllocError>
+    ensures { IfOk result (λ step. step ≡ asked leaf (outcome_with work.now element entry.now (declared_in untouched work.now element entry.now) down.entry.now)) }
 {
     if untouched {
-        update_unedited(alloc, work, element, entry, down)
+        update_unedited(alloc, work, element, entry, down, leaf)
     } else {
-        update_element(alloc, work, element, entry, down)
+        update_element(alloc, work, element, entry, down, leaf)
     }
 }
 
 /// The outcome, of an element that isn't at rest or stands under one that isn't.
-fn moving_step(untouched: bool, step: Step<Entry, Down>) -> Step<Entry, QuietDown>
-    ensures { result ≡ moving_step untouched step }
+fn moving_step(untouched: bool, step: Step<Entry, Option<Down>>) -> Step<Entry, Option<QuietDown>>
+    ensures { result ≡ moving_told untouched step }
 {
     match step {
         Step::Updated(entry, down) => Step::Updated(entry, moving_down(untouched, down)),
@@ -188,15 +218,16 @@ fn moving_step(untouched: bool, step: Step<Entry, Down>) -> Step<Entry, QuietDow
     }
 }
 
-/// What such an element hands down.
-fn moving_down(untouched: bool, down: Down) -> QuietDown
-    ensures { result ≡ quiet_down (Some down) false untouched }
+/// What such an element hands down, where that is told.
+fn moving_down(untouched: bool, down: Option<Down>) -> Option<QuietDown>
+    ensures { result ≡ moving_down untouched down }
 {
-    QuietDown {
+    let down = down?;
+    Some(QuietDown {
         parent: Some(down),
         rests: false,
         untouched,
-    }
+    })
 }
 
 /// Whether the element is passed over: it is untouched and at rest, under ancestors of which this says whether they rest.

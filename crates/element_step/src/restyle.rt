@@ -5,16 +5,19 @@ ghost use Rattle.std.specs.Bool.{OnTrue};
 ghost use Rattle.std.specs.List.{list_all};
 ghost use Rattle.change_styles.specs.Inheritance.{handed_down};
 ghost use Rattle.change_styles.specs.ThreeStyles.{AreRunning, after_change_style, before_change_style, current_style};
-ghost use Rattle.style_data.specs.TransitionSets.{no_transitions};
 ghost use Rattle.style_data.specs.Transitions.{IsMoment};
+ghost use Rattle.transition_update.specs.Idle.{AreOthersSame};
 ghost use Rattle.transition_update.specs.Updates.{all_cancelled, cancelled_by, style_change, transitions_after};
 ghost use Rattle.value_types.specs.Ranges.{IsSize};
 ghost use Rattle.element_step.specs.Rendering.{is_rendered};
-ghost use Rattle.element_step.specs.Restyling.{IsRestyled, IsUnchanged};
+ghost use Rattle.element_step.specs.Restyling.{IsRestyled, IsUnchanged, RunOn};
 ghost use Rattle.element_step.specs.Settling.{has_ended, have_same_values};
-ghost use Rattle.element_step.specs.Updates.{after_parent, before_parent, cancelled_from, element_update, now_parent, transitions_from};
+ghost use Rattle.element_step.specs.Updates.{after_parent, before_parent, cancelled_from, element_update, now_parent, transitions_from, unless_leaf};
 
-use crate::downs::{after_parent, before_parent, hand_down, inherit_alike, now_parent};
+use crate::downs::{
+    after_parent, before_parent, hand_down_told, handed_alike, handed_unless_leaf, inherit_alike,
+    none_inherited, now_parent,
+};
 use crate::rendering::is_rendered;
 use crate::settling::{have_all_ended, have_ended, is_settled};
 use change_styles::{
@@ -27,7 +30,8 @@ use style_data::{
     Transitions,
 };
 use transition_update::{
-    StyleChangeEvent, UpdatedTransitions, cancel_transitions, update_transitions,
+    StyleChangeEvent, UpdatedTransitions, all_end_there, cancel_transitions,
+    update_kept_transitions, update_transitions,
 };
 use value_types::PropertyId;
 
@@ -41,10 +45,12 @@ pub(crate) struct Restyled {
     pub(crate) gone: Vec<Gone>,
     /// Whether nothing will change by time alone.
     pub(crate) settled: bool,
-    pub(crate) down: Down,
+    /// What it hands down; `None` of a leaf.
+    pub(crate) down: Option<Down>,
 }
 
-/// The styles and transitions of an element after a style change event, and what it hands down.
+/// The styles and transitions of an element after a style change event, and what it hands down, unless it's a leaf: nothing is
+/// updated below it, so nobody asks for that.
 pub(crate) fn restyle<A: Sampling, B: Sampling>(
     alloc: Global,
     entry: &Entry,
@@ -55,18 +61,19 @@ pub(crate) fn restyle<A: Sampling, B: Sampling>(
     animations: &[Animation],
     root_size: Option<Fix>,
     event: StyleChangeEvent,
+    leaf: bool,
 ) -> Result<Restyled, AllocError>
     requires time { IsMoment event.time.0 }
     requires size { IfSome root_size IsSize }
-    ensures { IfOk result (λ r. IsRestyled (element_update entry.now declared.now (option_copied parent.entry) (A.animated_value old.now) (B.animated_value new.now) animations.now root_size event) r) }
+    ensures { IfOk result (λ r. IsRestyled leaf (element_update entry.now declared.now (option_copied parent.entry) (A.animated_value old.now) (B.animated_value new.now) animations.now root_size event) r) }
 {
     if is_rendered(declared, parent) {
         restyle_rendered(
-            alloc, entry, declared, parent, old, new, animations, root_size, event,
+            alloc, entry, declared, parent, old, new, animations, root_size, event, leaf,
         )
     } else {
         restyle_unrendered(
-            alloc, entry, declared, parent, old, new, animations, root_size, event,
+            alloc, entry, declared, parent, old, new, animations, root_size, event, leaf,
         )
     }
 }
@@ -83,29 +90,35 @@ fn restyle_rendered<A: Sampling, B: Sampling>(
     animations: &[Animation],
     root_size: Option<Fix>,
     event: StyleChangeEvent,
+    leaf: bool,
 ) -> Result<Restyled, AllocError>
     requires rendered { IsTrue (is_rendered declared.now (option_copied parent)) }
     requires time { IsMoment event.time.0 }
     requires size { IfSome root_size IsSize }
-    ensures { IfOk result (λ r. IsRestyled (element_update entry.now declared.now (option_copied parent.entry) (A.animated_value old.now) (B.animated_value new.now) animations.now root_size event) r) }
+    ensures { IfOk result (λ r. IsRestyled leaf (element_update entry.now declared.now (option_copied parent.entry) (A.animated_value old.now) (B.animated_value new.now) animations.now root_size event) r) }
 {
     let above_after = after_parent(parent);
     let after = after_style(alloc, declared, above_after, old)?;
-    let changes = change_transitions(alloc, entry, declared, &after, parent, old, event)?;
+    let handed = handed_unless_leaf(&after, above_after, leaf);
+    let handed = handed.as_ref();
+    let changes = change_transitions(
+        alloc, entry, declared, &after, handed, parent, old, event, leaf,
+    )?;
     let running = changes.transitions.running();
     let current = current_of(
-        alloc, declared, running, animations, &after, parent, old, new, event.time,
+        alloc, declared, running, animations, &after, handed, parent, old, new, event.time, leaf,
     )?;
-    let Current { now, settled } = current;
-    let above_now = now_parent(parent);
-    let handed_after = handed_down(&after, above_after);
-    let handed_now = handed_down(&now, above_now);
+    let Current {
+        now,
+        settled,
+        handed: handed_now,
+    } = current;
     let ChangedTransitions {
         transitions,
         gone,
         before,
     } = changes;
-    let down = hand_down(entry, root_size, before, handed_after, handed_now, true);
+    let down = hand_down_told(entry, root_size, before, handed, handed_now.as_ref(), true);
     Ok(Restyled {
         now,
         transitions,
@@ -115,7 +128,7 @@ fn restyle_rendered<A: Sampling, B: Sampling>(
     })
 }
 
-/// What is left of the transitions, what is cancelled, and what the before-change style hands down.
+/// What is left of the transitions, what is cancelled, and what the before-change style hands down; `None` of a leaf.
 #[derive(Drop)]
 struct ChangedTransitions {
     transitions: Transitions,
@@ -129,15 +142,18 @@ fn change_transitions<A: Sampling>(
     entry: &Entry,
     declared: &DeclaredSet,
     after: &Style,
+    handed: Option<&Inherited>,
     parent: Option<&Down>,
     old: &A,
     event: StyleChangeEvent,
+    leaf: bool,
 ) -> Result<ChangedTransitions, AllocError>
     requires time { IsMoment event.time.0 }
     requires after { after.now ≡ after_change_style declared.now (A.animated_value old.now) (after_parent (option_copied parent)) }
+    requires handed { option_copied handed ≡ unless_leaf leaf (handed_down (after_parent (option_copied parent)) after.now) }
     ensures transitions { IfOk result (λ c. c.transitions ≡ transitions_from entry.now.rendered (style_change (before_change_style entry.now (A.animated_value old.now) event.time.0 (before_parent (option_copied parent.entry))) after.now event) entry.now.effects.transitions) }
     ensures gone { IfOk result (λ c. c.gone.items ≡ cancelled_from entry.now.rendered (style_change (before_change_style entry.now (A.animated_value old.now) event.time.0 (before_parent (option_copied parent.entry))) after.now event) entry.now.effects.transitions) }
-    ensures before { IfOk result (λ c. c.before ≡ (if entry.now.rendered then Some (handed_down (before_parent (option_copied parent.entry)) (before_change_style entry.now (A.animated_value old.now) event.time.0 (before_parent (option_copied parent.entry)))) else None)) }
+    ensures before { IfOk result (λ c. c.before ≡ (if entry.now.rendered then unless_leaf leaf (handed_down (before_parent (option_copied parent.entry)) (before_change_style entry.now (A.animated_value old.now) event.time.0 (before_parent (option_copied parent.entry)))) else None)) }
 {
     if !entry.rendered() {
         return Ok(ChangedTransitions {
@@ -146,22 +162,32 @@ fn change_transitions<A: Sampling>(
             before: None,
         });
     }
-    let above = before_parent(parent);
-    if has_no_transition(entry) && is_unchanged(entry, declared, parent) {
+    if run_on(entry, after) && is_unchanged(entry, declared, parent) {
         return Ok(ChangedTransitions {
-            transitions: Transitions::new(alloc),
+            transitions: copy_transitions(alloc, entry)?,
             gone: Vec::new(alloc),
-            before: Some(handed_down(after, above)),
+            before: handed.copied(),
         });
     }
-    let before = before_change(alloc, entry, declared, after, parent, old, event.time)?;
-    let handed = handed_down(&before, above);
+    let before = before_change(
+        alloc, entry, declared, after, handed, parent, old, event.time, leaf,
+    )?;
     let updated = update_kept(alloc, entry, &before, after, event)?;
     Ok(ChangedTransitions {
         transitions: updated.transitions,
         gone: updated.gone,
-        before: Some(handed),
+        before: before.handed,
     })
+}
+
+/// The before-change style.
+#[derive(Drop)]
+struct BeforeChange {
+    style: Style,
+    /// Whether it's known to differ from the after-change style only in properties of which a transition is kept.
+    others_same: bool,
+    /// What it hands down; `None` of a leaf.
+    handed: Option<Inherited>,
 }
 
 /// The before-change style: the after-change style with the values of the running transitions, where nothing else
@@ -171,18 +197,35 @@ fn before_change<A: Sampling>(
     entry: &Entry,
     declared: &DeclaredSet,
     after: &Style,
+    handed: Option<&Inherited>,
     parent: Option<&Down>,
     old: &A,
     t: Micros,
-) -> Result<Style, AllocError>
-    requires { after.now ≡ after_change_style declared.now (A.animated_value old.now) (after_parent (option_copied parent)) }
-    ensures { IfOk result (λ s. s ≡ before_change_style entry.now (A.animated_value old.now) t.0 (before_parent (option_copied parent.entry))) }
+    leaf: bool,
+) -> Result<BeforeChange, AllocError>
+    requires after { after.now ≡ after_change_style declared.now (A.animated_value old.now) (after_parent (option_copied parent)) }
+    requires handed { option_copied handed ≡ unless_leaf leaf (handed_down (after_parent (option_copied parent)) after.now) }
+    ensures style { IfOk result (λ b. b.style ≡ before_change_style entry.now (A.animated_value old.now) t.0 (before_parent (option_copied parent.entry))) }
+    ensures others { IfOk result (λ b. IsTrue b.others_same → AreOthersSame b.style after.now entry.now.effects.transitions) }
+    ensures handed { IfOk result (λ b. b.handed ≡ unless_leaf leaf (handed_down (before_parent (option_copied parent.entry)) (before_change_style entry.now (A.animated_value old.now) t.0 (before_parent (option_copied parent.entry))))) }
 {
-    if is_unchanged(entry, declared, parent) && keep_font_size(entry.running()) {
-        return with_running(alloc, after, entry.running(), t);
-    }
     let above = before_parent(parent);
-    before_style(alloc, entry, t, above, old)
+    if is_unchanged(entry, declared, parent) && keep_font_size(entry.running()) {
+        let style = with_running(alloc, after, entry.running(), t)?;
+        let handed = handed_alike(&style, above, entry.running(), handed, leaf);
+        return Ok(BeforeChange {
+            style,
+            others_same: true,
+            handed,
+        });
+    }
+    let style = before_style(alloc, entry, t, above, old)?;
+    let handed = handed_unless_leaf(&style, above, leaf);
+    Ok(BeforeChange {
+        style,
+        others_same: false,
+        handed,
+    })
 }
 
 /// Whether the before-change style is the after-change style but for transitions: the declarations are the same, and
@@ -195,12 +238,29 @@ fn is_unchanged(entry: &Entry, declared: &DeclaredSet, parent: Option<&Down>) ->
     inherit_alike(before, after) && entry.declared().is_kept_like(declared)
 }
 
-fn has_no_transition(entry: &Entry) -> bool
-    ensures { OnTrue result (entry.now.effects.transitions ≡ no_transitions) }
+/// Whether all transitions of an element stay as they are, and hand down nothing of their values, where nothing but them
+/// tells its before-change style from its after-change style. No before-change style is needed then.
+fn run_on(entry: &Entry, after: &Style) -> bool
+    ensures { OnTrue result (RunOn after.now entry.now.effects.transitions) }
 {
     match entry.effects() {
         None => true,
-        Some(effects) => effects.transitions().is_empty(),
+        Some(effects) => are_running_on(effects.transitions(), after),
+    }
+}
+
+fn are_running_on(transitions: &Transitions, after: &Style) -> bool
+    ensures { OnTrue result (RunOn after.now transitions.now) }
+{
+    none_inherited(transitions.running()) && all_end_there(transitions, after)
+}
+
+fn copy_transitions(alloc: Global, entry: &Entry) -> Result<Transitions, AllocError>
+    ensures { IfOk result (λ t. t ≡ entry.now.effects.transitions) }
+{
+    match entry.effects() {
+        None => Ok(Transitions::new(alloc)),
+        Some(effects) => effects.transitions().copy(alloc),
     }
 }
 
@@ -208,17 +268,38 @@ fn has_no_transition(entry: &Entry) -> bool
 fn update_kept(
     alloc: Global,
     entry: &Entry,
-    before: &Style,
+    before: &BeforeChange,
     after: &Style,
     event: StyleChangeEvent,
 ) -> Result<UpdatedTransitions, AllocError>
-    requires { IsMoment event.time.0 }
-    ensures transitions { IfOk result (λ u. u.transitions ≡ transitions_after (style_change before.now after.now event) entry.now.effects.transitions) }
-    ensures gone { IfOk result (λ u. u.gone.items ≡ cancelled_by (style_change before.now after.now event) entry.now.effects.transitions) }
+    requires time { IsMoment event.time.0 }
+    requires others { IsTrue before.now.others_same → AreOthersSame before.now.style after.now entry.now.effects.transitions }
+    ensures transitions { IfOk result (λ u. u.transitions ≡ transitions_after (style_change before.now.style after.now event) entry.now.effects.transitions) }
+    ensures gone { IfOk result (λ u. u.gone.items ≡ cancelled_by (style_change before.now.style after.now event) entry.now.effects.transitions) }
 {
     match entry.effects() {
-        Some(effects) => { update_transitions(alloc, effects.transitions(), before, after, event) }
-        None => update_transitions(alloc, &Transitions::new(alloc), before, after, event),
+        Some(effects) => update_asked(alloc, effects.transitions(), before, after, event),
+        None => update_asked(alloc, &Transitions::new(alloc), before, after, event),
+    }
+}
+
+/// The rules of starting, which are asked for the properties that may differ alone.
+fn update_asked(
+    alloc: Global,
+    transitions: &Transitions,
+    before: &BeforeChange,
+    after: &Style,
+    event: StyleChangeEvent,
+) -> Result<UpdatedTransitions, AllocError>
+    requires time { IsMoment event.time.0 }
+    requires others { IsTrue before.now.others_same → AreOthersSame before.now.style after.now transitions.now }
+    ensures transitions { IfOk result (λ u. u.transitions ≡ transitions_after (style_change before.now.style after.now event) transitions.now) }
+    ensures gone { IfOk result (λ u. u.gone.items ≡ cancelled_by (style_change before.now.style after.now event) transitions.now) }
+{
+    if before.others_same {
+        update_kept_transitions(alloc, transitions, &before.style, after, event)
+    } else {
+        update_transitions(alloc, transitions, &before.style, after, event)
     }
 }
 
@@ -227,6 +308,8 @@ fn update_kept(
 struct Current {
     now: Style,
     settled: bool,
+    /// What it hands down; `None` of a leaf.
+    handed: Option<Inherited>,
 }
 
 /// The current style of a rendered element: the after-change style with the values of its transitions, where it inherits
@@ -237,15 +320,19 @@ fn current_of<A: Sampling, B: Sampling>(
     running: &[(PropertyId, Running)],
     animations: &[Animation],
     after: &Style,
+    handed: Option<&Inherited>,
     parent: Option<&Down>,
     old: &A,
     new: &B,
     t: Micros,
+    leaf: bool,
 ) -> Result<Current, AllocError>
     requires time { IsMoment t.0 }
     requires running { AreRunning running.now }
     requires after { after.now ≡ after_change_style declared.now (A.animated_value old.now) (after_parent (option_copied parent)) }
+    requires handed { option_copied handed ≡ unless_leaf leaf (handed_down (after_parent (option_copied parent)) after.now) }
     ensures now { IfOk result (λ c. c.now ≡ current_style declared.now (B.animated_value new.now) running.now t.0 (now_parent (option_copied parent.entry))) }
+    ensures handed { IfOk result (λ c. c.handed ≡ unless_leaf leaf (handed_down (now_parent (option_copied parent.entry)) c.now)) }
     ensures settled { IfOk result (λ c. c.settled ≡ ((length running.now == 0) && list_all (has_ended t.0) animations.now && have_same_values after.now c.now)) }
 {
     let above_after = after_parent(parent);
@@ -255,14 +342,22 @@ fn current_of<A: Sampling, B: Sampling>(
         && new.gives_nothing()
         && keep_font_size(running)
     {
+        let now = with_running(alloc, after, running, t)?;
+        let handed = handed_alike(&now, above_now, running, handed, leaf);
         return Ok(Current {
-            now: with_running(alloc, after, running, t)?,
+            now,
             settled: have_all_ended(running, animations, t),
+            handed,
         });
     }
     let now = now_style(alloc, declared, running, t, above_now, new)?;
     let settled = is_settled(running, animations, after, &now, t);
-    Ok(Current { now, settled })
+    let handed = handed_unless_leaf(&now, above_now, leaf);
+    Ok(Current {
+        now,
+        settled,
+        handed,
+    })
 }
 
 /// An element that isn't rendered: all its transitions are cancelled, and it has neither these nor animations.
@@ -276,18 +371,20 @@ fn restyle_unrendered<A: Sampling, B: Sampling>(
     animations: &[Animation],
     root_size: Option<Fix>,
     event: StyleChangeEvent,
+    leaf: bool,
 ) -> Result<Restyled, AllocError>
     requires rendered { IsFalse (is_rendered declared.now (option_copied parent)) }
     requires time { IsMoment event.time.0 }
     requires size { IfSome root_size IsSize }
-    ensures { IfOk result (λ r. IsRestyled (element_update entry.now declared.now (option_copied parent.entry) (A.animated_value old.now) (B.animated_value new.now) animations.now root_size event) r) }
+    ensures { IfOk result (λ r. IsRestyled leaf (element_update entry.now declared.now (option_copied parent.entry) (A.animated_value old.now) (B.animated_value new.now) animations.now root_size event) r) }
 {
     let above = now_parent(parent);
     let now = now_style(alloc, declared, &[], event.time, above, &NoSampling)?;
     let gone = cancel_kept(alloc, entry, event)?;
-    let handed = handed_down(&now, above);
-    let before = before_handed(alloc, entry, parent, old, event)?;
-    let down = hand_down(entry, root_size, before, handed, handed, false);
+    let handed = handed_unless_leaf(&now, above, leaf);
+    let handed = handed.as_ref();
+    let before = before_handed(alloc, entry, parent, old, event, leaf)?;
+    let down = hand_down_told(entry, root_size, before, handed, handed, false);
     Ok(Restyled {
         now,
         transitions: Transitions::new(alloc),
@@ -311,17 +408,19 @@ fn cancel_kept(
     }
 }
 
-/// What the before-change style hands down, where the element was rendered before.
+/// What the before-change style hands down, where the element was rendered before and is no leaf. That style is made for this
+/// alone.
 fn before_handed<A: Sampling>(
     alloc: Global,
     entry: &Entry,
     parent: Option<&Down>,
     old: &A,
     event: StyleChangeEvent,
+    leaf: bool,
 ) -> Result<Option<Inherited>, AllocError>
-    ensures { IfOk result (λ b. b ≡ (if entry.now.rendered then Some (handed_down (before_parent (option_copied parent.entry)) (before_change_style entry.now (A.animated_value old.now) event.time.0 (before_parent (option_copied parent.entry)))) else None)) }
+    ensures { IfOk result (λ b. b ≡ (if entry.now.rendered then unless_leaf leaf (handed_down (before_parent (option_copied parent.entry)) (before_change_style entry.now (A.animated_value old.now) event.time.0 (before_parent (option_copied parent.entry)))) else None)) }
 {
-    if !entry.rendered() {
+    if leaf || !entry.rendered() {
         return Ok(None);
     }
     let above = before_parent(parent);

@@ -4,7 +4,7 @@ ghost use Rattle.std.specs.Prelude.{◌≡◌, ◌++◌, IfOk, IfSome, option_co
 ghost use Rattle.style_data.specs.Entries.{AreAscending, effect_lists, entry_parts};
 ghost use Rattle.style_data.specs.Transitions.{IsMoment};
 ghost use Rattle.value_types.specs.Ranges.{IsSize};
-ghost use Rattle.element_step.specs.Updates.{down_after, element_update, entry_after};
+ghost use Rattle.element_step.specs.Updates.{down_after, element_update, entry_after, unless_leaf};
 
 use crate::rendering::is_rendered;
 use crate::restyle::{Restyled, restyle};
@@ -18,12 +18,14 @@ use transition_update::StyleChangeEvent;
 #[derive(Drop)]
 pub struct ElementUpdated {
     pub entry: Entry,
-    pub down: Down,
+    /// What it hands down; `None` of a leaf.
+    pub down: Option<Down>,
 }
 
 /// The update of an element at a style change event: its entry after it, and what it hands down (CSS Transitions 1,
 /// section 3), from its entry of the event before, its declarations of now, what its parent hands down, what its animations of
 /// then and of now give at this moment, its animations of now, and the root's font size at the event before, if there was one.
+/// What a leaf hands down nobody asks for, so it isn't made.
 pub fn update_entry<A: Sampling, B: Sampling>(
     alloc: Global,
     entry: &Entry,
@@ -34,17 +36,18 @@ pub fn update_entry<A: Sampling, B: Sampling>(
     paired: Paired,
     root_size: Option<Fix>,
     event: StyleChangeEvent,
+    leaf: bool,
 ) -> Result<ElementUpdated, AllocError>
     requires time { IsMoment event.time.0 }
     requires size { IfSome root_size IsSize }
     requires ascending { AreAscending paired.animations.items }
     ensures entry { IfOk result (λ u. u.entry ≡ entry_after (element_update entry.now declared (option_copied parent.entry) (A.animated_value old.now) (B.animated_value new.now) paired.animations.items root_size event) paired.gone.items) }
-    ensures down { IfOk result (λ u. u.down ≡ down_after (element_update entry.now declared (option_copied parent.entry) (A.animated_value old.now) (B.animated_value new.now) paired.animations.items root_size event)) }
+    ensures down { IfOk result (λ u. u.down ≡ unless_leaf leaf (down_after (element_update entry.now declared (option_copied parent.entry) (A.animated_value old.now) (B.animated_value new.now) paired.animations.items root_size event))) }
 {
     let rendered = is_rendered(&declared, parent);
     let animations = paired.animations.as_slice();
     let restyled = restyle(
-        alloc, entry, &declared, parent, old, new, animations, root_size, event,
+        alloc, entry, &declared, parent, old, new, animations, root_size, event, leaf,
     )?;
     let down = restyled.down;
     let entry = entry_of(alloc, entry.gone(), declared, rendered, restyled, paired)?;

@@ -3,10 +3,12 @@
 ghost use Rattle.std.specs.Prelude.{◌≡◌, [], IfOk, IfSome, IsTrue, option_copied, unwrap_or};
 ghost use Rattle.animation_names.specs.Updates.{paired_of};
 ghost use Rattle.doc_tree.specs.Element.{is_in};
+ghost use Rattle.pass_core.specs.Work.{asked};
 ghost use Rattle.style_data.specs.Entries.{AreAscending};
 ghost use Rattle.style_data.specs.Transitions.{IsMoment};
 ghost use Rattle.timing_types.specs.TimingLists.{initial_animations};
 ghost use Rattle.value_types.specs.Ranges.{IsSize};
+ghost use Rattle.element_step.specs.Updates.{unless_leaf};
 ghost use Rattle.element_step.specs.Works.{animation_lists_after, animations_before, animations_updated, document_event, entry_with, event_at, from_parent, handed_with, outcome_in, outcome_with, top_down};
 
 use crate::rendering::is_rendered;
@@ -106,7 +108,7 @@ impl ElementWork {
 impl TreeWork for ElementWork {
     ghost use Rattle.std.specs.Prelude.{IfSome};
     ghost use Rattle.element_step.specs.Works.{element_meaning};
-    ghost use Rattle.pass_core.specs.Work.{IsSibling};
+    ghost use Rattle.pass_core.specs.Work.{asked, IsSibling};
 
     type Entry = Entry;
 
@@ -121,11 +123,12 @@ impl TreeWork for ElementWork {
         entry: &'a Entry,
         down: &'a Down,
         _sibling: Option<Sibling<'a, Entry, Down>>,
-    ) -> Result<Step<Entry, Down>, AllocError>
+        leaf: bool,
+    ) -> Result<Step<Entry, Option<Down>>, AllocError>
         requires { IfSome _sibling (IsSibling (element_meaning self.now) down.now) }
-        ensures { IfOk result (λ step. step ≡ (element_meaning self.now).outcome element entry.now down.entry.now) }
+        ensures { IfOk result (λ step. step ≡ asked leaf ((element_meaning self.now).outcome element entry.now down.entry.now)) }
     {
-        update_element(alloc, self, element, entry, down)
+        update_element(alloc, self, element, entry, down, leaf)
     }
 
     fn top(&self) -> Down {
@@ -147,22 +150,24 @@ pub(crate) fn top() -> Down
 }
 
 /// The update of an element of the document at the event, over what its parent hands down: its new entry, and what it hands
-/// down. An element that isn't in the tree is kept, with what it was handed.
+/// down. What a leaf hands down nobody asks for, so it isn't made. An element that isn't in the tree is kept, with what it was
+/// handed.
 pub fn update_element(
     alloc: Global,
     work: &ElementWork,
     element: u32,
     entry: &Entry,
     down: &Down,
-) -> Result<Step<Entry, Down>, AllocError>
-    ensures { IfOk result (λ step. step ≡ outcome_in work.now element entry.now down.entry.now) }
+    leaf: bool,
+) -> Result<Step<Entry, Option<Down>>, AllocError>
+    ensures { IfOk result (λ step. step ≡ asked leaf (outcome_in work.now element entry.now down.entry.now)) }
 {
     if !work.tree.contains(element) {
-        return Ok(Step::Kept(*down));
+        return Ok(Step::Kept(handed_on(down, leaf)));
     }
     let last = entry.declared();
     let declared = declared_like(alloc, &work.sheets, &work.tree, element, last)?;
-    update_declaring(alloc, work, element, entry, declared, down)
+    update_declaring(alloc, work, element, entry, declared, down, leaf)
 }
 
 /// The same where the element declares what it did at the event before.
@@ -172,14 +177,15 @@ pub(crate) fn update_unedited(
     element: u32,
     entry: &Entry,
     down: &Down,
-) -> Result<Step<Entry, Down>, AllocError>
-    ensures { IfOk result (λ step. step ≡ outcome_with work.now element entry.now entry.now.declared down.entry.now) }
+    leaf: bool,
+) -> Result<Step<Entry, Option<Down>>, AllocError>
+    ensures { IfOk result (λ step. step ≡ asked leaf (outcome_with work.now element entry.now entry.now.declared down.entry.now)) }
 {
     if !work.tree.contains(element) {
-        return Ok(Step::Kept(*down));
+        return Ok(Step::Kept(handed_on(down, leaf)));
     }
     let declared = entry.declared().copy()?;
-    update_declaring(alloc, work, element, entry, declared, down)
+    update_declaring(alloc, work, element, entry, declared, down, leaf)
 }
 
 /// The same where the element is in the tree and declares this.
@@ -190,13 +196,21 @@ fn update_declaring(
     entry: &Entry,
     declared: DeclaredSet,
     down: &Down,
-) -> Result<Step<Entry, Down>, AllocError>
+    leaf: bool,
+) -> Result<Step<Entry, Option<Down>>, AllocError>
     requires { IsTrue (is_in element work.now.document.elements) }
-    ensures { IfOk result (λ step. step ≡ outcome_with work.now element entry.now declared down.entry.now) }
+    ensures { IfOk result (λ step. step ≡ asked leaf (outcome_with work.now element entry.now declared down.entry.now)) }
 {
     let parent = from_parent(work, element, down);
-    let updated = update_within(alloc, work, element, entry, declared, parent)?;
+    let updated = update_within(alloc, work, element, entry, declared, parent, leaf)?;
     Ok(Step::Updated(updated.entry, updated.down))
+}
+
+/// What an element that isn't in the tree hands on; `None` of a leaf.
+fn handed_on(down: &Down, leaf: bool) -> Option<Down>
+    ensures { result ≡ unless_leaf leaf down.entry.now }
+{
+    if leaf { None } else { Some(*down) }
 }
 
 /// What the parent hands down; `None` of the root.
@@ -217,9 +231,10 @@ fn update_within(
     entry: &Entry,
     declared: DeclaredSet,
     parent: Option<&Down>,
+    leaf: bool,
 ) -> Result<ElementUpdated, AllocError>
     ensures entry { IfOk result (λ u. u.entry ≡ entry_with work.now element entry.now declared (option_copied parent.entry)) }
-    ensures down { IfOk result (λ u. u.down ≡ handed_with work.now element entry.now declared (option_copied parent.entry)) }
+    ensures down { IfOk result (λ u. u.down ≡ unless_leaf leaf (handed_with work.now element entry.now declared (option_copied parent.entry))) }
 {
     let event = work.event_at(element);
     let rendered = is_rendered(&declared, parent);
@@ -236,6 +251,7 @@ fn update_within(
         paired,
         work.root_size,
         event,
+        leaf,
     )
 }
 

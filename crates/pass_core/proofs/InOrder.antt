@@ -17,8 +17,15 @@ use Rattle.pass_core.specs.declared.step.Step.TheVariants.{Updated, Kept}
 use Rattle.pass_core.proofs.Passing.{done_some}
 use Rattle.pass_core.proofs.Planned.{both_true, planned_place-slice_get}
 use Rattle.pass_core.proofs.Schedules.{after-push, allowed-push, differs_in, event_entries, whole_outcome}
-use Rattle.pass_core.proofs.Indexes.{distinct_push, distinct_with_value, done_at, stands_at, undone_at}
-use Rattle.pass_core.specs.InOrder.{down_at, outcome_of}
+use Rattle.pass_core.proofs.Indexes.{distinct_push, distinct_with_value, done_at, undone_at}
+
+-- what is handed down to a place, where all places before it are done in their order
+abbrev pub handed_at : {E D : Type 0} → Meaning E D → List (ℕ × D) → Place → Option D
+handed_at m done p = option_map_or (λ i. option_map (λ x. x.1) (slice_get done i)) p.parent (Some m.top)
+
+-- the outcome of the update of its element
+abbrev pub outcome_of : {E D : Type 0} → Meaning E D → PassState E D → Place → Option (Step E D)
+outcome_of m st p = option_and_then (λ x. option_map (λ d. m.outcome p.element x d) (handed_at m st.done p)) (value_for st.entries p.element)
 
 -- what all have, the one at an index has
 all_at : (p : Place → Bool) (ps : List Place) (i : ℕ) (d : Place) → i < length ps → list_all p ps ≡ true → p (get_or ps i d) ≡ true
@@ -26,17 +33,6 @@ all_at p ps i d within all = go (p (get_or ps i d)) refl where
   go : (b : Bool) → p (get_or ps i d) ≡ b → p (get_or ps i d) ≡ true
   go true is = is
   go false is = let h : true ≡ false = sym all ∙ list_all_at p ps i d within is in cc
-
--- ---- one place
-
--- the outcome of a place whose element's entry stands at an index
-pub outcome_is : {E D : Type 0} (m : Meaning E D) (es : List (ℕ × E)) (ds : List (ℕ × D)) (p : Place) (at : ℕ) (x : ℕ × E) (down : D) → are_distinct es ≡ true
-    → at < length es → (get_or es at x).0 ≡ p.element → x ≡ get_or es at x → down_at m ds p ≡ Some down
-    → outcome_of m (state_of es ds) p ≡ Some (m.outcome p.element x.1 down)
-outcome_is m es ds p at x down distinct within here read handed =
-    ap (option_and_then (λ y. option_map (λ d. m.outcome p.element y d) (down_at m ds p))) (stands_at es at p.element x distinct within here).value
-    ∙ ap (option_map (λ d. m.outcome p.element (get_or es at x).1 d)) handed
-    ∙ ap (λ y. Some (m.outcome p.element y.1 down)) (sym read)
 
 -- ---- the first places
 
@@ -58,7 +54,7 @@ pub nothing_passed : {E D : Type 0} (m : Meaning E D) (places : List Place) (ope
 nothing_passed m places opening distinct have = record { state = refl; allowed = refl; elements = refl; distinct = distinct; once = refl; have = have }
 
 -- a parent stands before its children
-parent_before : (places : List Place) (n i : ℕ) (d : Place) → parents_stand_before n places ≡ true → i < length places → IfSome (get_or places i d).parent (λ j. j < n + i)
+pub parent_before : (places : List Place) (n i : ℕ) (d : Place) → parents_stand_before n places ≡ true → i < length places → IfSome (get_or places i d).parent (λ j. j < n + i)
 parent_before [] n i d before within = absurd (omega (arith, within))
 parent_before (p ∷ ps) n zero d before within = go p.parent (both_true (option_map_or (λ j. nat_lt j n) p.parent true) (parents_stand_before (n + 1) ps) before).0 where
   go : (o : Option ℕ) → option_map_or (λ j. nat_lt j n) o true ≡ true → IfSome o (λ j. j < n + 0)
@@ -69,19 +65,13 @@ parent_before (p ∷ ps) n (suc i) d before within = go (get_or ps i d).parent (
   go None is = tt
   go (Some j) is = omega (arith, is)
 
-parents_in : (places : List Place) → is_proper places ≡ true → parents_stand_before 0 places ≡ true
+pub parents_in : (places : List Place) → is_proper places ≡ true → parents_stand_before 0 places ≡ true
 parents_in places proper = (both_true (parents_stand_before 0 places) (subtrees_end places 0 places) (both_true (differ places) (parents_stand_before 0 places && subtrees_end places 0 places) proper).1).0
 
 module _ {E D : Type 0} (m : Meaning E D) (places : List Place) (opening : List (ℕ × E)) (i : ℕ) (es : List (ℕ × E)) (ds : List (ℕ × D)) (passed : Passed m places opening i es ds)
     (proper : is_proper places ≡ true) (within : i < length places) (d : Place) where
-  count : length ds ≡ i
-  count = sym (length-map ds (λ x. x.0)) ∙ ap length passed.elements ∙ length-map (take i places) (λ p. p.element) ∙ length-take-le i places (omega (arith, within))
-
-  pub parent_done : IfSome (get_or places i d).parent (λ j. j < length ds)
-  parent_done = go (get_or places i d).parent (parent_before places 0 i d (parents_in places proper) within) where
-    go : (o : Option ℕ) → IfSome o (λ j. j < 0 + i) → IfSome o (λ j. j < length ds)
-    go None is = tt
-    go (Some j) is = omega (arith, is, count)
+  pub done_count : length ds ≡ i
+  done_count = sym (length-map ds (λ x. x.0)) ∙ ap length passed.elements ∙ length-map (take i places) (λ p. p.element) ∙ length-take-le i places (omega (arith, within))
 
   pub entry_there : (x : E) × (value_for es (get_or places i d).element ≡ Some x)
   entry_there = done_some (value_for es (get_or places i d).element) (all_at (λ p. is_some (value_for es p.element)) places i d within passed.have)
@@ -95,11 +85,11 @@ module _ {E D : Type 0} (m : Meaning E D) (places : List Place) (opening : List 
   -- what the place is handed, by its parent's index and by its parent's element
   pub record HandedAlike : Type 0 where
     pub down : D
-    pub at : down_at m ds (get_or places i d) ≡ Some down
+    pub at : handed_at m ds (get_or places i d) ≡ Some down
     pub to : handed_to m places ds (get_or places i d) ≡ Some down
     pub parent : option_map_or (is_done_at places ds) (get_or places i d).parent true ≡ true
 
-  handed_alike : HandedAlike
+  pub handed_alike : HandedAlike
   handed_alike = go (get_or places i d).parent refl (parent_before places 0 i d (parents_in places proper) within) where
     go : (o : Option ℕ) → (get_or places i d).parent ≡ o → IfSome o (λ j. j < 0 + i) → HandedAlike
     go None is before = record {
@@ -136,26 +126,25 @@ module _ {E D : Type 0} (m : Meaning E D) (places : List Place) (opening : List 
       let x = entry_there in
       let alike = handed_alike in
       let by_index : outcome_of m (state_of es ds) (get_or places i d) ≡ Some (m.outcome e x.0 alike.down) =
-      ap (option_and_then (λ y. option_map (λ w. m.outcome e y w) (down_at m ds (get_or places i d)))) x.1 ∙ ap (option_map (λ w. m.outcome e x.0 w)) alike.at in
+      ap (option_and_then (λ y. option_map (λ w. m.outcome e y w) (handed_at m ds (get_or places i d)))) x.1 ∙ ap (option_map (λ w. m.outcome e x.0 w)) alike.at in
       let by_element : outcome_at m places (state_of es ds) e ≡ Some (m.outcome e x.0 alike.down) =
       ap (option_and_then (λ y. option_and_then (λ p. option_map (λ w. m.outcome e y w) (handed_to m places ds p)) (planned_place places e))) x.1
       ∙ ap (option_and_then (λ p. option_map (λ w. m.outcome e x.0 w) (handed_to m places ds p))) planned ∙ ap (option_map (λ w. m.outcome e x.0 w)) alike.to in
       let same : outcome_at m places (state_of es ds) e ≡ Some s = by_element ∙ sym by_index ∙ is in
       ap (λ o. option_map_or (with_outcome (state_of es ds) e) o (state_of es ds)) same
 
-  outcome_there : (s : Step E D) × (outcome_of m (state_of es ds) (get_or places i d) ≡ Some s)
+  -- the outcome of its update
+  abbrev pub result_of : Step E D
+  result_of = m.outcome (get_or places i d).element entry_there.0 handed_alike.down
+
+  outcome_there : outcome_of m (state_of es ds) (get_or places i d) ≡ Some result_of
   outcome_there =
-      let x = entry_there in
-      let alike = handed_alike in (
-        m.outcome (get_or places i d).element x.0 alike.down,
-        ap (option_and_then (λ y. option_map (λ w. m.outcome (get_or places i d).element y w) (down_at m ds (get_or places i d)))) x.1
-            ∙ ap (option_map (λ w. m.outcome (get_or places i d).element x.0 w)) alike.at,
-      )
+      ap (option_and_then (λ y. option_map (λ w. m.outcome (get_or places i d).element y w) (handed_at m ds (get_or places i d)))) entry_there.1
+      ∙ ap (option_map (λ w. m.outcome (get_or places i d).element entry_there.0 w)) handed_alike.at
 
   pub next_passed : (es' : List (ℕ × E)) (ds' : List (ℕ × D))
-      → IfSome (outcome_of m (state_of es ds) (get_or places i d)) (λ s. state_of es' ds' ≡ with_outcome (state_of es ds) (get_or places i d).element s)
-      → Passed m places opening (i + 1) es' ds'
-  next_passed es' ds' is = go outcome_there.0 outcome_there.1 where
+      → state_of es' ds' ≡ with_outcome (state_of es ds) (get_or places i d).element result_of → Passed m places opening (i + 1) es' ds'
+  next_passed es' ds' noted = go result_of outcome_there noted where
     more : take (i + 1) places ≡ take i places ++ get_or places i d ∷ []
     more = take_more places i d within
 
@@ -170,11 +159,11 @@ module _ {E D : Type 0} (m : Meaning E D) (places : List Place) (opening : List 
     done_is (Updated x w) = refl
     done_is (Kept w) = refl
 
-    go : (s : Step E D) → outcome_of m (state_of es ds) (get_or places i d) ≡ Some s → Passed m places opening (i + 1) es' ds'
-    go s some =
+    go : (s : Step E D) → outcome_of m (state_of es ds) (get_or places i d) ≡ Some s
+        → state_of es' ds' ≡ with_outcome (state_of es ds) (get_or places i d).element s → Passed m places opening (i + 1) es' ds'
+    go s some noted =
         let e = (get_or places i d).element in
         let st : PassState E D = state_of es ds in
-        let noted : state_of es' ds' ≡ with_outcome st e s = subst (λ o. IfSome o (λ t. state_of es' ds' ≡ with_outcome st e t)) some is in
         let event : state_of es' ds' ≡ after_event m places st (Update e) = noted ∙ sym (event_is s some) in
         let pushed : ds' ≡ ds ++ (e, down_of s) ∷ [] = ap (λ (t : PassState E D). t.done) noted ∙ done_is s in
         record {

@@ -1,5 +1,6 @@
 pub mod ListsByElement
 pub mod Planned
+pub mod Leaves
 pub mod Passing
 pub mod Schedules
 pub mod Orders
@@ -7,3 +8,4 @@ pub mod Swaps
 pub mod Indexes
 pub mod InOrder
 pub mod Lasts
+pub mod Keeping

@@ -1,4 +1,5 @@
 pub mod Work
 pub mod Plans
 pub mod Passes
+pub mod Downs
 pub mod InOrder

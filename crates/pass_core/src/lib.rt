@@ -6,6 +6,7 @@
 #![tactic(auto)]
 
 mod alone;
+mod downs;
 mod entries;
 mod event;
 mod laws;

@@ -13,8 +13,8 @@ pub struct Sibling<'a, E, D> {
     pub before: &'a E,
     /// Its new entry.
     pub after: &'a E,
-    /// What its update hands down.
-    pub down: &'a D,
+    /// What its update hands down; `None` of a leaf of the plan.
+    pub down: Option<&'a D>,
 }
 
 impl<E, D> Copy for Sibling<'_, E, D> {}

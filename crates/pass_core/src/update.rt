@@ -1,7 +1,8 @@
 //! The update of an element.
 
-ghost use Rattle.std.specs.Prelude.{◌≡◌, [], ◌∷◌, ◌++◌, IfOk, OnOk, OnErr, option_copied};
+ghost use Rattle.std.specs.Prelude.{◌≡◌, [], ◌∷◌, ◌++◌, false, IfOk, OnOk, OnErr, Some, option_copied};
 ghost use Rattle.pass_core.specs.Plans.{planned_place};
+ghost use Rattle.pass_core.specs.Work.{asked};
 ghost use Rattle.pass_core.specs.Passes.{after_event, handed_to, outcome_at, state_of, with_outcome};
 
 use crate::event::CoreEvent;
@@ -80,7 +81,21 @@ fn outcome_at<W: TreeWork>(
     let Some(down) = handed_to(work, places, done, &place) else {
         return Ok(None);
     };
-    Ok(Some(work.update(alloc, element, entry, &down, None)?))
+    let outcome = work.update(alloc, element, entry, &down, None, false)?;
+    Ok(whole_step(outcome))
+}
+
+/// The step, which says what is handed down.
+fn whole_step<E: Drop, D: Copy>(step: Step<E, Option<D>>) -> Option<Step<E, D>>
+    ensures { (whole : Step E D) → step ≡ asked false whole → result ≡ Some whole }
+{
+    match step {
+        Step::Updated(entry, down) => {
+            let down = down?;
+            Some(Step::Updated(entry, down))
+        }
+        Step::Kept(down) => Some(Step::Kept(down?)),
+    }
 }
 
 fn planned_place(places: &[Place], element: u32) -> Option<Place>

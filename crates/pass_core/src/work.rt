@@ -1,7 +1,7 @@
 //! Work on a tree.
 
 ghost use Rattle.std.specs.Prelude.{◌≡◌, IfOk, IfSome};
-ghost use Rattle.pass_core.specs.Work.{IsSibling, Meaning};
+ghost use Rattle.pass_core.specs.Work.{asked, IsSibling, Meaning};
 
 use crate::sibling::Sibling;
 use crate::step::Step;
@@ -18,7 +18,8 @@ pub trait TreeWork: Send + Sync + Drop {
     /// What the work does.
     ghost meaning: { Self → Meaning Self.Entry Self.Down };
 
-    /// The outcome of the element's update. It is the same whether a sibling's is handed in or not.
+    /// The outcome of the element's update; at a leaf of the plan without what it hands down, which nobody asks for. It is the
+    /// same whether a sibling's is handed in or not.
     fn update<'a>(
         &self,
         alloc: Global,
@@ -26,9 +27,10 @@ pub trait TreeWork: Send + Sync + Drop {
         entry: &'a Self::Entry,
         down: &'a Self::Down,
         sibling: Option<Sibling<'a, Self::Entry, Self::Down>>,
-    ) -> Result<Step<Self::Entry, Self::Down>, AllocError>
+        leaf: bool,
+    ) -> Result<Step<Self::Entry, Option<Self::Down>>, AllocError>
         requires { IfSome sibling (IsSibling (meaning self.now) down.now) }
-        ensures { IfOk result (λ step. step ≡ (meaning self.now).outcome element entry.now down.now) };
+        ensures { IfOk result (λ step. step ≡ asked leaf ((meaning self.now).outcome element entry.now down.now)) };
 
     /// What is handed down to an element whose parent isn't in the plan. Takes no memory.
     fn top(&self) -> Self::Down

@@ -29,10 +29,12 @@ fn first_update_of_the_root(rt: HostRuntime) -> Result<(), Fail> {
         paired,
         None,
         event,
+        false,
     )?;
     assert!(rt; updated.entry.styled() && updated.entry.rendered() && updated.entry.settled());
     assert!(rt; updated.entry.now().value(PropertyId::Opacity) == Value::Number(Fix(1_000_000)));
-    assert!(rt; updated.down.rendered && updated.down.changed && updated.down.before.is_none());
-    assert!(rt; is_rendered(&DeclaredSet::empty(), Some(&updated.down)));
+    let down = updated.down.ok_or("it hands down nothing")?;
+    assert!(rt; down.rendered && down.changed && down.before.is_none());
+    assert!(rt; is_rendered(&DeclaredSet::empty(), Some(&down)));
     Ok(())
 }

@@ -3,9 +3,10 @@
 ghost use Rattle.std.specs.Prelude.{◌≡◌, map, IfOk, IfSome, IsTrue};
 ghost use Rattle.pass_core.specs.Passes.{are_distinct, have_entries};
 ghost use Rattle.pass_core.specs.Plans.{is_proper};
-ghost use Rattle.pass_core.specs.Work.{IsSibling};
+ghost use Rattle.pass_core.specs.Work.{asked, IsSibling};
 ghost use Rattle.tests_passes.specs.Works.{summing};
 
+use crate::told::told;
 use pass_core::{Place, Plan, Sibling, Step, TreeWork, pass_alone};
 use std::alloc::{AllocError, Global};
 use std::test::Fail;
@@ -33,15 +34,16 @@ impl TreeWork for Summing {
         entry: &'a u32,
         down: &'a u32,
         _sibling: Option<Sibling<'a, u32, u32>>,
-    ) -> Result<Step<u32, u32>, AllocError>
+        leaf: bool,
+    ) -> Result<Step<u32, Option<u32>>, AllocError>
         requires { IfSome _sibling (IsSibling summing down.now) }
-        ensures { IfOk result (λ step. step ≡ summing.outcome _element entry.now down.now) }
+        ensures { IfOk result (λ step. step ≡ asked leaf (summing.outcome _element entry.now down.now)) }
     {
         if *entry == 0 {
-            return Ok(Step::Kept(*down));
+            return Ok(Step::Kept(told(leaf, *down)));
         }
         let sum = entry.wrapping_add(*down);
-        Ok(Step::Updated(sum, sum))
+        Ok(Step::Updated(sum, told(leaf, sum)))
     }
 
     fn top(&self) -> u32 {

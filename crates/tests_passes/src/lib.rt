@@ -7,3 +7,5 @@ mod levels;
 mod schedules;
 #[cfg(test)]
 mod siblings;
+#[cfg(test)]
+mod told;

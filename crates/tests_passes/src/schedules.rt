@@ -3,10 +3,11 @@
 ghost use Rattle.std.specs.Prelude.{◌≡◌, ℕ, [], ◌∷◌, true, false, IfOk, IfSome};
 ghost use Rattle.pass_core.specs.Plans.{is_proper};
 ghost use Rattle.pass_core.specs.Passes.{are_allowed};
-ghost use Rattle.pass_core.specs.Work.{IsSibling};
+ghost use Rattle.pass_core.specs.Work.{asked, IsSibling};
 ghost use Rattle.pass_core.specs.declared.step.Step.TheVariants.{Kept};
 ghost use Rattle.tests_passes.specs.Works.{handing};
 
+use crate::told::told;
 use pass_core::{
     CoreEvent, CoreState, Place, Plan, Sibling, Step, TreeWork, pass_alone, run_schedule,
 };
@@ -35,14 +36,15 @@ impl TreeWork for Handing {
         entry: &'a u32,
         down: &'a u32,
         _sibling: Option<Sibling<'a, u32, u32>>,
-    ) -> Result<Step<u32, u32>, AllocError>
+        leaf: bool,
+    ) -> Result<Step<u32, Option<u32>>, AllocError>
         requires { IfSome _sibling (IsSibling (handing self.now.top) down.now) }
-        ensures { IfOk result (λ step. step ≡ (handing self.now.top).outcome _element entry.now down.now) }
+        ensures { IfOk result (λ step. step ≡ asked leaf ((handing self.now.top).outcome _element entry.now down.now)) }
     {
         Ok(if *entry == *down {
-            Step::Kept(*down)
+            Step::Kept(told(leaf, *down))
         } else {
-            Step::Updated(*down, *entry)
+            Step::Updated(*down, told(leaf, *entry))
         })
     }
 

@@ -1,9 +1,28 @@
 //! Winning declarations.
+ghost use Rattle.std.specs.Prelude.{◌≤◌, length};
 
+use mini_cascade::compute;
+use sheet_rules::read_style;
+use shorthand_text::Longhand;
+use std::alloc::Global;
 use std::test::Fail;
-use style_data::{DeclaredSet, Winning};
+use style_data::{DeclaredSet, NoSampling, Style, Winning};
 use timing_types::Same;
 use value_types::{Declared, ListName, ListValue, PropertyId};
+
+/// The style of an element with the declarations of this text, without a parent.
+pub(crate) fn style_of(alloc: Global, text: &str) -> Result<Style, Fail>
+    requires { length text.now ≤ 200 }
+{
+    let mut winning = Winning::new(alloc);
+    for declaration in read_style(alloc, text)?.iter() {
+        match &declaration.get().longhand {
+            Longhand::Property(p, declared) => winning.put(*p, false, *declared)?,
+            Longhand::List(name, value) => winning.put_list(*name, false, value.copy(alloc)?)?,
+        }
+    }
+    Ok(compute(alloc, &winning.finish(alloc)?, &NoSampling, &[], None)?)
+}
 
 #[test]
 fn collects_winners(rt: HostRuntime) -> Result<(), Fail> {

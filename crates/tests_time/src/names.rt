@@ -3,13 +3,12 @@
 ghost use Rattle.std.specs.Prelude.{◌≤◌, length};
 ghost use Rattle.style_data.specs.Transitions.{IsMoment};
 
+use crate::declarations::style_of;
 use animation_names::{Paired, match_names, resolve, sampled};
-use computed_style::{Sampling, Winning};
+use computed_style::Sampling;
 use fix_num::{Fix, Micros};
-use mini_cascade::compute;
-use sheet_rules::{read_sheet, read_style};
+use sheet_rules::read_sheet;
 use sheet_types::Sheets;
-use shorthand_text::Longhand;
 use std::alloc::Global;
 use std::test::Fail;
 use style_data::{Animation, Gone, NoSampling, Style};
@@ -24,19 +23,6 @@ fn sheets(alloc: Global) -> Result<Sheets, Fail> {
     Ok(sheets)
 }
 
-/// The style of an element with the lists of this text.
-fn style(alloc: Global, text: &str) -> Result<Style, Fail>
-    requires { length text.now ≤ 200 }
-{
-    let mut winning = Winning::new(alloc);
-    for declaration in read_style(alloc, text)?.iter() {
-        if let Longhand::List(name, value) = &declaration.get().longhand {
-            winning.put_list(*name, false, value.copy(alloc)?)?;
-        }
-    }
-    Ok(compute(alloc, &winning.finish(alloc)?, &NoSampling, &[], None)?)
-}
-
 /// What an event at time `t` makes of animations, where the lists of this text are given.
 fn paired(
     alloc: Global,
@@ -48,7 +34,7 @@ fn paired(
     requires text { length text.now ≤ 200 }
     requires time { IsMoment t.0 }
 {
-    let style = style(alloc, text)?;
+    let style = style_of(alloc, text)?;
     let lists = style.animations().ok_or("no animation list")?;
     Ok(match_names(alloc, old, lists, sheets, t, 1, 0)?)
 }

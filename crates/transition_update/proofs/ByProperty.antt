@@ -10,13 +10,13 @@ use Rattle.value_types.specs.declared.property.PropertyId.{PropertyId}
 use Rattle.transition_update.specs.Updates.{by_property}
 
 -- what these properties have of it
-abbrev of_these : {A : Type 0} → (PropertyId → Option A) → List PropertyId → List (PropertyId × A)
+abbrev pub of_these : {A : Type 0} → (PropertyId → Option A) → List PropertyId → List (PropertyId × A)
 of_these has ps = filter_map (λ p. option_map (λ a. (p, a)) (has p)) ps
 
-unlike : (m n : ℕ) → (m ≡ n → ⊥) → nat_eq m n ≡ false
+pub unlike : (m n : ℕ) → (m ≡ n → ⊥) → nat_eq m n ≡ false
 unlike m n differ = grind (arith, rules)
 
-like : (m n : ℕ) → m ≡ n → nat_eq m n ≡ true
+pub like : (m n : ℕ) → m ≡ n → nat_eq m n ≡ true
 like m n e = grind (arith, rules)
 
 -- a property of another number is passed over

@@ -1,3 +1,4 @@
+pub mod BuiltAgain
 pub mod ByProperty
 pub mod Completion
 pub mod Given

@@ -13,3 +13,7 @@ pub record HasNone (ts : TransitionSet) (p : PropertyId) : Type 0 where
 pub record IsIdle (before after : ComputedStyle) (ts : TransitionSet) (p : PropertyId) : Type 0 where
   pub none : HasNone ts p
   pub same : value_of before p ≡ value_of after p
+
+-- each property without a transition has the same value before and after the change
+abbrev pub AreOthersSame : ComputedStyle → ComputedStyle → TransitionSet → Type 0
+AreOthersSame before after ts = (p : PropertyId) → HasNone ts p → value_of before p ≡ value_of after p

@@ -1,8 +1,8 @@
 //! The outcomes of a level, put where they belong, on one thread.
 
-ghost use Rattle.std.specs.Prelude.{◌≡◌, ◌≤◌, ◌<◌, ◌+◌, drop, take, length, All};
+ghost use Rattle.std.specs.Prelude.{◌≡◌, ◌≤◌, ◌<◌, ◌+◌, drop, take, length, All, IfSome};
 ghost use Rattle.std.specs.List.{flat_map};
-ghost use Rattle.work_split.specs.Steps.{put, put_all, reached, IsSeatWithin};
+ghost use Rattle.work_split.specs.Steps.{put, put_all, reached, put_down, IsSeatWithin};
 
 use crate::seat::Seat;
 use pass_core::Step;
@@ -10,7 +10,7 @@ use pass_core::Step;
 /// Puts the outcomes, which are those of the level's seats in their order.
 pub(crate) fn put_pieces<E: Drop, D: Copy>(
     level: &[Seat],
-    pieces: Vec<Vec<Step<E, D>>>,
+    pieces: Vec<Vec<Step<E, Option<D>>>>,
     entries: &mut Vec<(u32, E)>,
     downs: &mut Vec<D>,
 )
@@ -28,7 +28,7 @@ pub(crate) fn put_pieces<E: Drop, D: Copy>(
 fn put_piece<E: Drop, D: Copy>(
     level: &[Seat],
     from: usize,
-    piece: Vec<Step<E, D>>,
+    piece: Vec<Step<E, Option<D>>>,
     entries: &mut Vec<(u32, E)>,
     downs: &mut Vec<D>,
 ) -> usize
@@ -45,10 +45,10 @@ fn put_piece<E: Drop, D: Copy>(
     next
 }
 
-/// Puts one outcome: the entry in its row, and what is handed down at the index of its place.
+/// Puts one outcome: the entry in its row, and what is handed down in its slot.
 fn put<E: Drop, D: Copy>(
     seat: &Seat,
-    step: Step<E, D>,
+    step: Step<E, Option<D>>,
     entries: &mut Vec<(u32, E)>,
     downs: &mut Vec<D>,
 )
@@ -58,8 +58,18 @@ fn put<E: Drop, D: Copy>(
     match step {
         Step::Updated(entry, down) => {
             entries[seat.row] = (seat.place.element, entry);
-            downs[seat.at] = down;
+            put_down(downs, seat.slot, down);
         }
-        Step::Kept(down) => downs[seat.at] = down,
+        Step::Kept(down) => put_down(downs, seat.slot, down),
+    }
+}
+
+/// Puts what a place hands down in its slot, where it has one and is told.
+fn put_down<D: Copy>(downs: &mut Vec<D>, slot: Option<usize>, down: Option<D>)
+    requires { IfSome slot (λ i. i < length downs.old.items) }
+    ensures { downs.new.items ≡ put_down downs.old.items slot down }
+{
+    if let (Some(slot), Some(down)) = (slot, down) {
+        downs[slot] = down;
     }
 }

@@ -15,7 +15,7 @@ use std::thread::Threads;
 
 /// Updates each element of the plan once, level by level from the top; one worker goes over it in tree order. A level is cut
 /// into at most so many pieces as there are workers; how many threads run them isn't said. Beside what the updates take it
-/// takes memory for the levels, for what each place hands down, and for the outcomes of one level.
+/// takes memory for the levels, for what inner places hand down, and for the outcomes of one level.
 pub fn by_levels<R: Threads + Sync, W: TreeWork>(
     rt: &R,
     alloc: Global,
@@ -35,9 +35,10 @@ pub fn by_levels<R: Threads + Sync, W: TreeWork>(
     }
     let levels = levels_of(alloc, plan.places.as_slice(), entries.as_slice())?;
     let mut closing = entries;
+    // One for each inner place. One that isn't done has the top's: nobody reads that.
     let mut downs = Vec::new(alloc);
-    downs.resize(plan.places.len(), work.top())?;
-    for level in &levels {
+    downs.resize(levels.inner, work.top())?;
+    for level in &levels.seats {
         work_level(
             rt,
             alloc,

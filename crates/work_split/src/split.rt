@@ -26,7 +26,7 @@ pub(crate) fn steps_by_piece<R: Threads + Sync, W: TreeWork>(
     entries: &[(u32, W::Entry)],
     downs: &[W::Down],
     workers: u32,
-) -> Result<Vec<Vec<Step<W::Entry, W::Down>>>, AllocError>
+) -> Result<Vec<Vec<Step<W::Entry, Option<W::Down>>>>, AllocError>
     requires workers { 0 < workers }
     requires can { All (IsSeatWithin (length entries.now) (length downs.now)) level.now }
     ensures { IfOk result (λ pieces. AllZip (IsStepOf (W.meaning work.now) (reached entries.now downs.now)) level.now (flat_map (λ v. v.items) pieces.items)) }
@@ -36,12 +36,12 @@ pub(crate) fn steps_by_piece<R: Threads + Sync, W: TreeWork>(
         .par_iter()
         .with_min_len(1)
         .map(
-            |piece: &&[Seat]| -> Result<Vec<Step<W::Entry, W::Down>>, AllocError>
+            |piece: &&[Seat]| -> Result<Vec<Step<W::Entry, Option<W::Down>>>, AllocError>
                 requires { All (IsSeatWithin (length entries.now) (length downs.now)) piece.now.now }
                 ensures { IfOk result (λ steps. AllZip (IsStepOf (W.meaning work.entry.now) (reached entries.entry.now downs.entry.now)) piece.now.now steps.items) }
             { steps_of(alloc, work, piece, entries, downs) },
         )
-        .collect::<Result<Vec<Vec<Step<W::Entry, W::Down>>>, AllocError>>(rt, alloc)?
+        .collect::<Result<Vec<Vec<Step<W::Entry, Option<W::Down>>>>, AllocError>>(rt, alloc)?
 }
 
 /// How many pieces a level of so many elements is cut into at most.

@@ -16,31 +16,34 @@ pub(crate) fn steps_of<W: TreeWork>(
     seats: &[Seat],
     entries: &[(u32, W::Entry)],
     downs: &[W::Down],
-) -> Result<Vec<Step<W::Entry, W::Down>>, AllocError>
+) -> Result<Vec<Step<W::Entry, Option<W::Down>>>, AllocError>
     requires { All (IsSeatWithin (length entries.now) (length downs.now)) seats.now }
     ensures { IfOk result (λ steps. AllZip (IsStepOf (W.meaning work.now) (reached entries.now downs.now)) seats.now steps.items) }
 {
+    let top = work.top();
     let mut steps = Vec::with_capacity(alloc, seats.len())?;
     for seat in seats {
-        let parent = seat.place.parent;
-        let sibling = sibling_of(&seats[..steps.len()], steps.as_slice(), entries, parent);
-        let step = step_of(alloc, work, seat, entries, downs, sibling)?;
+        let above = seat.above;
+        let down = handed(&top, downs, above);
+        let sibling = sibling_of(&seats[..steps.len()], steps.as_slice(), entries, above);
+        let step = step_of(alloc, work, seat, entries, down, sibling)?;
         steps.push(step)?;
     }
     Ok(steps)
 }
 
-/// What the last of the steps gave, which are those of the seats, where its seat has this parent.
+/// What the last of the steps gave, which are those of the seats, where the slot above its seat is this one: so both are
+/// handed the same.
 fn sibling_of<'a, E, D>(
     seats: &[Seat],
-    steps: &'a [Step<E, D>],
+    steps: &'a [Step<E, Option<D>>],
     entries: &'a [(u32, E)],
-    parent: Option<u32>,
+    above: Option<usize>,
 ) -> Option<Sibling<'a, E, D>>
-    ensures { (m : Meaning E D) (downs : List D) (down : D) → AllZip (IsStepOf m (reached entries.now downs)) seats.now steps.now → handed m downs parent ≡ Some down → IfSome result (IsSibling m down) }
+    ensures { (m : Meaning E D) (downs : List D) (down : D) → AllZip (IsStepOf m (reached entries.now downs)) seats.now steps.now → handed m.top downs above ≡ Some down → IfSome result (IsSibling m down) }
 {
     let seat = seats.last()?;
-    if seat.place.parent != parent {
+    if seat.above != above {
         return None;
     }
     let Step::Updated(after, down) = steps.last()? else {
@@ -50,40 +53,40 @@ fn sibling_of<'a, E, D>(
         element: seat.place.element,
         before: &entries.get(seat.row)?.1,
         after,
-        down,
+        down: down.as_ref(),
     })
 }
 
-/// The outcome of the update of the seat's element, which may take over a sibling's.
+/// The outcome of the update of the seat's element, over what is handed down to it; the update may take over a sibling's.
 fn step_of<'a, W: TreeWork>(
     alloc: Global,
     work: &W,
     seat: &Seat,
     entries: &'a [(u32, W::Entry)],
-    downs: &[W::Down],
+    down: &'a W::Down,
     sibling: Option<Sibling<'a, W::Entry, W::Down>>,
-) -> Result<Step<W::Entry, W::Down>, AllocError>
-    requires within { IsSeatWithin (length entries.now) (length downs.now) seat.now }
-    requires sibling { (down : W.Down) → handed (W.meaning work.now) downs.now seat.now.place.parent ≡ Some down → IfSome sibling (IsSibling (W.meaning work.now) down) }
-    ensures { IfOk result (IsStepOf (W.meaning work.now) (reached entries.now downs.now) seat.now) }
+) -> Result<Step<W::Entry, Option<W::Down>>, AllocError>
+    requires row { seat.now.row < length entries.now }
+    requires sibling { IfSome sibling (IsSibling (W.meaning work.now) down.now) }
+    ensures { IfOk result (λ step. (downs : List W.Down) → handed (W.meaning work.now).top downs seat.now.above ≡ Some down.now → IsStepOf (W.meaning work.now) (reached entries.now downs) seat.now step) }
 {
-    let down = handed(work, downs, seat.place.parent);
     work.update(
         alloc,
         seat.place.element,
         &entries[seat.row].1,
-        &down,
+        down,
         sibling,
+        seat.slot.is_none(),
     )
 }
 
-/// What is handed down to a place with this parent.
-fn handed<W: TreeWork>(work: &W, downs: &[W::Down], parent: Option<u32>) -> W::Down
-    requires { IfSome parent (λ i. i < length downs.now) }
-    ensures { handed (W.meaning work.now) downs.now parent ≡ Some result }
+/// What is handed down from the slot above a place, or at the top.
+fn handed<'a, D>(top: &'a D, downs: &'a [D], above: Option<usize>) -> &'a D
+    requires { IfSome above (λ i. i < length downs.now) }
+    ensures { handed top.now downs.now above ≡ Some result.now }
 {
-    match parent {
-        None => work.top(),
-        Some(parent) => downs[parent as usize],
+    match above {
+        None => top,
+        Some(slot) => &downs[slot],
     }
 }

@@ -5,10 +5,10 @@ use Rattle.computed_style.specs.Styles.{ComputedStyle}
 use Rattle.change_styles.specs.Inheritance.{handed_down}
 use Rattle.change_styles.specs.ThreeStyles.{after_change_style, before_change_style, current_style}
 use Rattle.transition_update.specs.Updates.{StyleChange, style_change}
-use Rattle.element_step.proofs.Rendered.{after_rendered, cancelled_rendered, down_is, handed_after_rendered, now_rendered, settled_is, transitions_rendered}
+use Rattle.element_step.proofs.Rendered.{after_rendered, cancelled_rendered, handed_after_rendered, now_rendered, settled_is, told_is, transitions_rendered}
 use Rattle.element_step.proofs.restyle.restyle_rendered.Goals as goal
 use Rattle.element_step.specs.Settling.{has_ended, have_same_values}
-use Rattle.element_step.specs.Updates.{after_parent, before_parent, cancelled_from, element_update, handed_after, handed_now, now_of, now_parent, transitions_from, transitions_of}
+use Rattle.element_step.specs.Updates.{after_parent, before_parent, cancelled_from, element_update, handed_after, handed_now, now_of, now_parent, transitions_from, transitions_of, unless_leaf}
 
 pub returns : goal.returns
 returns g c =
@@ -17,7 +17,6 @@ returns g c =
     let is = c.requires.rendered in
     let changes = c.in_ok-changes.changes in
     let above_after = c.after_parent-above_after.ensures in
-    let above_now = c.now_parent-above_now.ensures in
     let change_to : ComputedStyle → StyleChange = λ after. style_change (before_change_style x.entry x.old x.event.time.0 (before_parent x.parent)) after x.event in
     let after_is : c.in_ok-after.after ≡ after_change_style x.declared x.old (after_parent x.parent) =
     c.in_ok-after.ensures ∙ ap (after_change_style x.declared x.old) above_after in
@@ -29,12 +28,12 @@ returns g c =
     c.in_ok-current.ensures.now
     ∙ ap (λ l. current_style x.declared x.new l x.event.time.0 (now_parent x.parent)) (c.running-running.ensures.value ∙ ap (λ ts. ts.running) transitions_is)
     ∙ sym (now_rendered x is) in
-    let handed_now_is : c.handed_down-handed_now.result ≡ handed_now x =
-    c.handed_down-handed_now.ensures ∙ ap (λ p. handed_down p now) above_now
-    ∙ ap (handed_down (now_parent x.parent)) now_is in
-    let handed_after_is : c.handed_down-handed_after.result ≡ handed_after x =
-    c.handed_down-handed_after.ensures ∙ ap (λ p. handed_down p c.in_ok-after.after) above_after
-    ∙ ap (handed_down (after_parent x.parent)) after_is ∙ handed_after_rendered x is in
+    let leaf = c.args.leaf in
+    let handed_now_is : option_copied c.as_ref.result ≡ unless_leaf leaf (handed_now x) =
+    c.as_ref.ensures.value ∙ c.in_ok-current.ensures.handed ∙ ap (λ s. unless_leaf leaf (handed_down (now_parent x.parent) s)) now_is in
+    let handed_after_is : option_copied c.as_ref-handed.result ≡ unless_leaf leaf (handed_after x) =
+    c.as_ref-handed.ensures.value ∙ c.handed_unless_leaf-handed.ensures ∙ ap (λ p. unless_leaf leaf (handed_down p c.in_ok-after.after)) above_after
+    ∙ ap (unless_leaf leaf) (ap (handed_down (after_parent x.parent)) after_is ∙ handed_after_rendered x is) in
     record {
       now = now_is;
       transitions = transitions_is;
@@ -47,7 +46,7 @@ returns g c =
           c.running-running.ensures.value
           ∙ settled_is x changes.transitions c.in_ok-after.after now transitions_is (after_is ∙ sym (after_rendered x is)) now_is;
       down =
-          c.hand_down-down.ensures
-          ∙ down_is x changes.before c.handed_down-handed_after.result c.handed_down-handed_now.result true c.in_ok-changes.ensures.before handed_after_is
+          c.hand_down_told-down.ensures
+          ∙ told_is leaf x changes.before (option_copied c.as_ref-handed.result) (option_copied c.as_ref.result) true c.in_ok-changes.ensures.before handed_after_is
           handed_now_is (sym is);
     }

@@ -4,7 +4,7 @@ use Rattle.animation_names.specs.Samples.{samples_of}
 use Rattle.animation_names.specs.Updates.{PairedLists}
 use Rattle.keyframes.specs.SampleLists.{value_of_samples}
 use Rattle.keyframes.specs.SamplesIn.{samples_in}
-use Rattle.element_step.specs.Updates.{ElementUpdate, down_after, element_update, entry_after}
+use Rattle.element_step.specs.Updates.{ElementUpdate, down_after, element_update, entry_after, unless_leaf}
 use Rattle.element_step.specs.Works.{DocumentEvent, animated_values_in, animations_updated, paired_with, update_with}
 use Rattle.element_step.proofs.Working.{pairs_at, update_is}
 use Rattle.element_step.proofs.work.update_within.Goals as goal
@@ -37,4 +37,4 @@ returns-clause-entry c =
     (subst (λ (x : ElementUpdate). IfOk c.update_entry.result (λ u. u.entry ≡ entry_after x c.in_ok-paired.paired.gone.items)) (whole c) c.update_entry.ensures.entry)
 
 pub returns-clause-down : goal.returns-clause-down
-returns-clause-down c = subst (λ (x : ElementUpdate). IfOk c.update_entry.result (λ u. u.down ≡ down_after x)) (whole c) c.update_entry.ensures.down
+returns-clause-down c = subst (λ (x : ElementUpdate). IfOk c.update_entry.result (λ u. u.down ≡ unless_leaf c.args.leaf (down_after x))) (whole c) c.update_entry.ensures.down

@@ -14,4 +14,4 @@ returns-clause-value g c =
 pub returns-then-not-declares-clause-value : goal.returns-then-not-declares-clause-value
 returns-then-not-declares-clause-value g c =
     let x : StyleSources = style_sources c.args.d.now (g.A.Sampling.animated_value c.args.anims.now) c.args.transitions.now (option_copied c.args.parent) in
-    c.inherited_value.ensures.value ∙ sym (computed_value-inherited x c.args.p c.if-has_none.ensures c.if-gives_nothing.ensures c.if-not-declares.ensures)
+    c.inherited_value.ensures.value ∙ sym (computed_value-inherited x c.args.p c.if-has_none.ensures c.if-gives_nothing.ensures c.if-not-declares.ensures.none)

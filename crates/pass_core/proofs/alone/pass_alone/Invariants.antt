@@ -1,13 +1,13 @@
 use Rattle.std.specs.Prelude.{IfSome}
 use Rattle.pass_core.specs.InOrder.{IsLast}
 use Rattle.pass_core.proofs.alone.pass_alone.Given as goal
-use Rattle.pass_core.proofs.InOrder.{Passed}
+use Rattle.pass_core.proofs.Keeping.{Come}
 
--- the first places are done, and what is remembered came last
+-- the pass has come to the place, and what is remembered came last
 abbrev pub invariant-loop-place : goal.invariant-loop-place
 invariant-loop-place g l =
     let m = g.W.TreeWork.meaning l.work in
     record {
-      passed : Passed m l.plan.places.items l.initial.closing.items l.place-index l.closing.items l.done.items;
-      last : IfSome l.last (IsLast m l.closing.items l.done.items);
+      come : Come m l.plan.places.items l.initial.closing.items l.place-index l.closing.items l.downs;
+      last : IfSome l.last (IsLast m l.closing.items l.downs);
     }

@@ -2,7 +2,7 @@ use Rattle.std.proofs.Common.{◌≡◌, ◌<◌, ◌∷◌, [], drop, get_or, l
 use Rattle.std.specs.Vec.Iter.{into_iter_items}
 use Rattle.work_split.specs.Steps.{put_all, reached}
 use Rattle.work_split.proofs.Pieces.{nothing_left}
-use Rattle.work_split.proofs.Putting.{no_seat, put-places, put-rows, put_all-next, put_all-none}
+use Rattle.work_split.proofs.Putting.{no_seat, put-slots, put-rows, put_all-next, put_all-none}
 use Rattle.work_split.proofs.merge.put_piece.Goals as goal
 
 pub loop-step-preserved : goal.loop-step-preserved
@@ -27,7 +27,7 @@ loop-step-preserved g c =
           let gone = c.in-Some.ensures.steps.1 in
           omega arith;
       rows = ap (λ r. length r.entries) c.put.ensures ∙ put-rows (get_or c.args.level.now at.next no_seat) x was ∙ at.invariant.rows;
-      places = ap (λ r. length r.downs) c.put.ensures ∙ put-places (get_or c.args.level.now at.next no_seat) x was ∙ at.invariant.places;
+      slots = ap (λ r. length r.downs) c.put.ensures ∙ put-slots (get_or c.args.level.now at.next no_seat) x was ∙ at.invariant.slots;
     }
 
 pub returns-clause-value : goal.returns-clause-value

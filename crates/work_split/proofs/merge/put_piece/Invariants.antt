@@ -11,5 +11,5 @@ invariant-loop-step g l = record {
   next : l.next + length (into_iter_items l.step-iterator) ≡ l.from + length (into_iter_items l.initial.step-iterator);
   count : into_iter_len l.step-iterator ≡ length (into_iter_items l.step-iterator);
   rows : length l.entries.items ≡ length l.initial.entries.items;
-  places : length l.downs.items ≡ length l.initial.downs.items;
+  slots : length l.downs.items ≡ length l.initial.downs.items;
 }

@@ -2,7 +2,7 @@ use Rattle.std.proofs.Common.{◌≡◌, ◌∷◌, drop, length, length-append,
 use Rattle.std.specs.List.{flat_map}
 use Rattle.std.specs.Vec.Iter.{into_iter_items}
 use Rattle.work_split.specs.Steps.{put_all, reached}
-use Rattle.work_split.proofs.Putting.{no_seat, put_all-piece, put_all-places, put_all-rows}
+use Rattle.work_split.proofs.Putting.{no_seat, put_all-piece, put_all-slots, put_all-rows}
 use Rattle.work_split.proofs.merge.put_pieces.Goals as goal
 
 pub loop-piece-preserved : goal.loop-piece-preserved
@@ -27,5 +27,5 @@ loop-piece-preserved g c =
           let gone = c.in-Some.ensures.steps.1 in
           omega arith;
       rows = ap (λ r. length r.entries) c.put_piece-next.ensures.value ∙ put_all-rows (drop at.next level) x.items was ∙ at.invariant.rows;
-      places = ap (λ r. length r.downs) c.put_piece-next.ensures.value ∙ put_all-places (drop at.next level) x.items was ∙ at.invariant.places;
+      slots = ap (λ r. length r.downs) c.put_piece-next.ensures.value ∙ put_all-slots (drop at.next level) x.items was ∙ at.invariant.slots;
     }

@@ -12,5 +12,5 @@ invariant-loop-piece g l = record {
   next : l.next + length (flat_map (λ v. v.items) (into_iter_items l.piece-iterator)) ≡ length l.level;
   count : into_iter_len l.piece-iterator ≡ length (into_iter_items l.piece-iterator);
   rows : length l.entries.items ≡ length l.initial.entries.items;
-  places : length l.downs.items ≡ length l.initial.downs.items;
+  slots : length l.downs.items ≡ length l.initial.downs.items;
 }

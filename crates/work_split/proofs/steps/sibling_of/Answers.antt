@@ -1,6 +1,7 @@
-use Rattle.std.proofs.Common.{◌∙◌, length, refl, rules, sym}
+use Rattle.std.proofs.Common.{◌≡◌, ◌∙◌, ap, length, refl, subst, sym, Some}
+use Rattle.std.specs.Prelude.{IfSome}
 use Rattle.std.proofs.lemmas.Option.{slice_get_read}
-use Rattle.work_split.proofs.Earlier.{last_gives}
+use Rattle.work_split.proofs.Earlier.{index_same, last_gives, value_lent}
 use Rattle.work_split.proofs.steps.sibling_of.Goals as goal
 
 pub returns : goal.returns
@@ -8,6 +9,8 @@ returns g c = λ m downs down zipped handed.
     let at = c.in_ok-get.ensures.lookup in
     let x = c.in_ok-get.field-0.now in
     let s = c.in_ok-seat.seat.now in
-    last_gives m c.args.entries.now downs c.args.seats.now c.args.steps.now c.args.parent s x c.in_ok-after.field-0.now down zipped
-    (sym c.in_ok-seat.ensures.value) (sym c.in_ok-after.ensures.value) (slice_get_read c.args.entries.now (length c.args.entries.now) s.row x refl at.3.0 at.1) (search rules) handed
-    ∙ c.in-Updated.is
+    let gave =
+    last_gives m c.args.entries.now downs c.args.seats.now c.args.steps.now c.args.above s x _ _ down zipped
+    (sym c.in_ok-seat.ensures.value) (sym c.in_ok-after.ensures.value ∙ ap Some c.in-Updated.is)
+    (slice_get_read c.args.entries.now (length c.args.entries.now) s.row x refl at.3.0 at.1) (index_same s.above c.args.above c.if-ne.ensures) handed in
+    record { handed = gave.handed; outcome_is = gave.step_is; handed_is = value_lent c.as_ref.result (λ d. d ≡ gave.handed) (subst (λ o. IfSome o (λ d. d ≡ gave.handed)) (sym c.as_ref.ensures.value) gave.told_is) }

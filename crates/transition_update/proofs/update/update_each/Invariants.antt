@@ -1,5 +1,5 @@
 use Rattle.transition_update.proofs.Steps.{Updating}
-use Rattle.transition_update.proofs.update.update_transitions.Given as goal
+use Rattle.transition_update.proofs.update.update_each.Given as goal
 use Rattle.transition_update.specs.Updates.{style_change}
 
 abbrev pub invariant-loop-p : goal.invariant-loop-p

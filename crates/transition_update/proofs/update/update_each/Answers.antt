@@ -1,7 +1,7 @@
 use Rattle.std.proofs.Common.{arith}
 use Rattle.computed_style.proofs.ByIndex.{number-property_at, property_at}
 use Rattle.transition_update.proofs.Steps.{next_updated}
-use Rattle.transition_update.proofs.update.update_transitions.Goals as goal
+use Rattle.transition_update.proofs.update.update_each.Goals as goal
 use Rattle.transition_update.specs.Updates.{style_change}
 
 pub loop-p-preserved : goal.loop-p-preserved
